@@ -1,0 +1,14 @@
+pub mod Paths
+pub mod Sound
+pub mod Clashing
+pub mod Closure
+pub mod BySet
+pub mod TotalOrder
+pub mod Trails
+pub mod Held
+pub mod General
+pub mod Unique
+pub mod Ordering
+pub mod Numbering
+pub mod Bytes
+pub mod WorkedGraph

@@ -1,0 +1,11 @@
+pub mod Terms
+pub mod Graphs
+pub mod Closing
+pub mod Order
+pub mod Listing
+pub mod Holding
+pub mod Clashes
+pub mod Theorems
+pub mod Numbering
+pub mod Bytes
+pub mod Worked
