@@ -1,0 +1,15 @@
+pub mod Agreeing
+pub mod Judging
+pub mod Quotients
+pub mod Values
+pub mod Naming
+pub mod Renumbering
+pub mod Alike
+pub mod Keeping
+pub mod Redundant
+pub mod Extending
+pub mod Declaring
+pub mod Branching
+pub mod Growing
+pub mod Holding
+pub mod Stating
