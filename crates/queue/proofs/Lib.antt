@@ -1,0 +1,3 @@
+pub mod Rotations
+pub mod Room
+pub mod Turns
