@@ -1,0 +1,4 @@
+use Rattle.tables.proofs.copying.overwrite_front.Needs as need
+
+pub returns : need.returns
+returns g c = simp (c .copy-from-slice .ensures .after)

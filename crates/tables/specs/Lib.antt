@@ -1,0 +1,4 @@
+pub mod Views
+pub mod Attributes
+pub mod Growing
+pub mod Copying
