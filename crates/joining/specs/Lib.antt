@@ -1,0 +1,2 @@
+pub mod Workspaces
+pub mod Uniting
