@@ -1,0 +1,4 @@
+pub mod Given
+pub mod Frontier
+pub mod Traces
+pub mod Arranged
