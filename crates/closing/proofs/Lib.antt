@@ -1,0 +1,3 @@
+mod Composing
+mod Knowing
+mod Leaves
