@@ -1,0 +1,9 @@
+pub mod Numbering
+pub mod Visiting
+pub mod LowestFirst
+pub mod Entries
+pub mod Trailing
+pub mod Whole
+pub mod Alike
+pub mod Listed
+pub mod Refusing
