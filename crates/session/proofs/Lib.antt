@@ -1,0 +1,9 @@
+pub mod Faults
+pub mod Denoting
+pub mod Questions
+pub mod Variables
+pub mod Aparts
+pub mod Keeping
+pub mod Judgement
+pub mod Statements
+pub mod Listings

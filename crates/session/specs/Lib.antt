@@ -1,0 +1,4 @@
+pub mod Parts
+pub mod Checks
+pub mod Sessions
+pub mod Judging
