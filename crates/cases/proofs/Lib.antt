@@ -1,0 +1,5 @@
+pub mod Reaching
+pub mod Drawings
+pub mod Values
+pub mod Answering
+pub mod Rows
