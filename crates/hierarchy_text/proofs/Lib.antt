@@ -1,0 +1,4 @@
+mod Grounds
+mod Linking
+mod Marking
+mod Rising
