@@ -1,0 +1,3 @@
+pub mod Responses
+pub mod Gathering
+pub mod Theorems

@@ -1,0 +1,4 @@
+pub mod Machine
+pub mod Running
+pub mod Stepping
+pub mod Stating

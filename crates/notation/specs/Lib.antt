@@ -1,0 +1,5 @@
+pub mod Notation
+pub mod Classes
+pub mod Readings
+pub mod Views
+pub mod Reads

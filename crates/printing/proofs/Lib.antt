@@ -1,0 +1,4 @@
+pub mod Flat
+pub mod Hex
+pub mod Bounds
+pub mod Accepted
