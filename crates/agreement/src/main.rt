@@ -1,4 +1,6 @@
 // Checks the agreement of the sentences of a manual, which it reads from the file `sentences.txt`. docs/agreement.md has the notation.
+#![tactic(auto)]
+
 use anyhow::anyhow;
 use manuals::manual::Manual;
 use sentences::findings::Findings;

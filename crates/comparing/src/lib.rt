@@ -1,4 +1,6 @@
 // Maps from one graph into another.
+#![tactic(auto)]
+
 mod below;
 mod images;
 pub mod maps;

@@ -1,4 +1,6 @@
 // Graphs of their own: read from listings and written to them.
+#![tactic(auto)]
+
 mod attributes;
 mod counts;
 pub mod feature_graph;

@@ -1,4 +1,6 @@
 // Reads a type hierarchy written in names, and says what comes of it. The status is 0 where it is accepted.
+#![tactic(auto)]
+
 use anyhow::anyhow;
 use hierarchy_text::{Refusal, Report, Sheet};
 use std::io;

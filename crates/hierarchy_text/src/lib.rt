@@ -1,4 +1,6 @@
 // Type hierarchies written in names: reading them, and saying in words what comes of them.
+#![tactic(auto)]
+
 mod above;
 mod entry;
 mod fault;

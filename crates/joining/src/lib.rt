@@ -1,4 +1,6 @@
 // Joining nodes of a table, and what lies beneath them.
+#![tactic(auto)]
+
 pub mod attributes;
 pub mod beginning;
 pub mod classes;

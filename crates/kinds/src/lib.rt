@@ -1,4 +1,6 @@
 // Kinds of value: what a value is, how values are ordered, and which of them are leaves.
+#![tactic(auto)]
+
 pub mod atoms;
 pub mod examples;
 pub mod kind;

@@ -1,4 +1,6 @@
 // One line in, its bytes out.
+#![tactic(auto)]
+
 mod calls;
 pub mod line_buffer;
 mod opening;

@@ -1,4 +1,6 @@
 // The bytes of a graph, written into a buffer.
+#![tactic(auto)]
+
 pub mod parts;
 #[cfg(test)]
 mod tests;

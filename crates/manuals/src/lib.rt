@@ -1,4 +1,6 @@
 // A manual to be checked: names, and the sentences with the equations that they state. docs/agreement.md has the notation.
+#![tactic(auto)]
+
 pub mod equation;
 pub mod fault;
 pub mod manual;

@@ -1,4 +1,6 @@
 // The notation of lines, in which a line writes one call of a session.
+#![tactic(auto)]
+
 ghost use Rattle.notation.specs.Reads.{Reads};
 
 mod class;

@@ -1,4 +1,6 @@
 // The nodes of a table numbered in listing order.
+#![tactic(auto)]
+
 mod arranging;
 mod giving;
 pub mod mention;

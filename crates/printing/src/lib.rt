@@ -1,4 +1,6 @@
 // What answers look like in print, put into a buffer.
+#![tactic(auto)]
+
 pub mod answers;
 mod hexadecimal;
 mod numbers;

@@ -1,4 +1,6 @@
 // A first-in-first-out queue over a slice that its caller lends.
+#![tactic(auto)]
+
 ghost use Rattle.std.specs.Prelude.{◌^◌, ◌<◌, ◌≤◌, length};
 
 mod methods;

@@ -1,4 +1,6 @@
 // Sentences checked by a session over atoms, and what comes of it in words.
+#![tactic(auto)]
+
 mod clashing;
 pub mod failure;
 pub mod findings;

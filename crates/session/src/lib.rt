@@ -1,4 +1,6 @@
 // A session: feature equations come one after another, and what follows from them is kept as a graph.
+#![tactic(auto)]
+
 mod asking;
 mod checks;
 mod declaring;

@@ -1,4 +1,6 @@
 // The line program: standard input in, answers out.
+#![tactic(auto)]
+
 use lines::line_buffer::LineBuffer;
 use lines::responder::Responder;
 use printing::outcome::{ROOM, printed};

@@ -1,4 +1,6 @@
 // Rows that hold a feature graph.
+#![tactic(auto)]
+
 pub mod attributes;
 pub mod copying;
 pub mod growing;

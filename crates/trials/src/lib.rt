@@ -1,4 +1,6 @@
 // Sessions run as tests: tables of calls, each with the answer that is expected.
+#![tactic(auto)]
+
 #[cfg(test)]
 mod kinds_of_value;
 #[cfg(test)]
