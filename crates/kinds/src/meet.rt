@@ -6,8 +6,8 @@ use crate::kind::Kind;
 // The greatest value at or below all of them, or none exactly when no value is. It is the top where there are none,
 // and none where one of them is no value.
 pub fn meet_all<K: Kind>(kind: &K, values: &[u64]) -> Option<u64>
-    ensures greatest { MeetOfAll (meaning kind.now) values.now result }
-    ensures members { MeetOfMembers (meaning kind.now) values.now result }
+    ensures greatest { MeetOfAll (K.meaning kind.now) values.now result }
+    ensures members { MeetOfMembers (K.meaning kind.now) values.now result }
 {
     let mut greatest = kind.top();
     for value in values {

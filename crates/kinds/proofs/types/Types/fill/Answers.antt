@@ -15,7 +15,7 @@ returns-in-err-below c =
 
 pub returns : goal.returns
 returns c =
-    let made = c.in-ok-below.ensures in
+    let made = c.in_ok-below.ensures in
     record {
       filled = (made.0, made.2);
       settled =

@@ -38,11 +38,11 @@ returns-in-Some-first-astray c =
 
 pub returns : goal.returns
 returns c =
-    let n = c.args.count in let links = c.args.links.now in let below = c.down-sets-below.result in
-    let up = c.in-default.ensures in let linked = c.in-default-first-orphan.ensures in
+    let n = c.args.count in let links = c.args.links.now in let below = c.down_sets-below.result in
+    let up = c.in_default.ensures in let linked = c.in_default-first_orphan.ensures in
     let meet = c.in-default-first-parted.ensures in
-    let only : (v t : ℕ) → t < n → Under below v t → Up links v t = λ v t h. c.down-sets-below.ensures.only v t in
-    let all = c.down-sets-below.ensures.all in
+    let only : (v t : ℕ) → t < n → Under below v t → Up links v t = λ v t h. c.down_sets-below.ensures.only v t in
+    let all = c.down_sets-below.ensures.all in
     let few : n ≤ 64 = omega arith in let some : 1 ≤ n = omega arith in
     let right : NoneHas (Fault n links c.args.marks) =
     λ t f. c.in-default-first-astray.ensures t (fault_astray n links below few up only all some linked c.args.marks f) in (

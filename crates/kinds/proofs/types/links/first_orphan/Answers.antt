@@ -10,12 +10,12 @@ returns-in-err-t c =
 
 pub returns-then-t-count : goal.returns-then-t-count
 returns-then-t-count c =
-    let found = c.in-ok-t.ensures in
+    let found = c.in_ok-t.ensures in
     least_orphan c.args.count c.args.links.now c.linked.result (omega arith) c.linked.type-inv
-    (c.linked.ensures.only, c.linked.ensures.all) c.in-ok-t.t found.1 found.2 (omega arith)
+    (c.linked.ensures.only, c.linked.ensures.all) c.in_ok-t.t found.1 found.2 (omega arith)
 
 pub returns-else-t-count : goal.returns-else-t-count
 returns-else-t-count c =
-    let found = c.in-ok-t.ensures in
+    let found = c.in_ok-t.ensures in
     all_linked c.args.count c.args.links.now c.linked.result (omega arith) c.linked.type-inv
     (c.linked.ensures.only, c.linked.ensures.all) (λ t h l. let le = found.2 t h in omega arith)

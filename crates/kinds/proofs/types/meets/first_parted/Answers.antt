@@ -8,5 +8,5 @@ loop-a-preserved c = λ x y h k l.
     elim (cases_lt x c.loop-a.a) [
       | inl m ↦ c.loop-a.invariant x y m k l
       | inr m ↦ let e : x ≡ c.loop-a.a = omega arith in
-          subst (λ z. UnderLowest c.args.below.now z y) (sym e) (c.in-default.ensures y (omega arith) l)
+          subst (λ z. UnderLowest c.args.below.now z y) (sym e) (c.in_default.ensures y (omega arith) l)
     ]

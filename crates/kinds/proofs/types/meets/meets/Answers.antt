@@ -9,6 +9,6 @@ pub returns : goal.returns
 returns c =
     let below = c.args.below.now in let a = c.args.a in let b = c.args.b in
     let found = c.in-Some.ensures in
-    by_none c.lowest-bit-2.result c.is-none.result (UnderLowest below a b) (Parted below a b) c.is-none.ensures
+    by_none c.lowest_bit-2.result c.is_none.result (UnderLowest below a b) (Parted below a b) c.is_none.ensures
     (rest_answers below a b c.in-Some.lowest found.1 found.2 (c.fits-below c.in-Some.lowest)
-    (c.fits-below a) c.lowest-bit-2.result c.lowest-bit-2.ensures)
+    (c.fits-below a) c.lowest_bit-2.result c.lowest_bit-2.ensures)

@@ -10,4 +10,4 @@ bounds-self-b c = let s = (sound_known _ _ _ c.args.self.now.sound).few in omega
 
 pub returns : goal.returns
 returns c = let k = c.args.self.now in
-    meet_answered k.count k.below k.leaves (sound_known _ _ _ k.sound) c.args.a c.args.b (omega arith) (omega arith) c.lowest-bit.result c.lowest-bit.ensures
+    meet_answered k.count k.below k.leaves (sound_known _ _ _ k.sound) c.args.a c.args.b (omega arith) (omega arith) c.lowest_bit.result c.lowest_bit.ensures
