@@ -22,8 +22,8 @@ place-requires c =
     let known : n ≤ next = at_most next n (graph t) c.requires.ordered (λ bf. mentioned_next (graph t) bf (by_variable x) n next inside (l, root) c.loop-x.invariant.0.numbered) in
     record { known = known; room = omega (arith, c.loop-x.auto.images, c.requires.room) }
 
-pub returns-in-err-next : goal.returns-in-err-next
-returns-in-err-next c =
+pub returns-in_err-next : goal.returns-in_err-next
+returns-in_err-next c =
     let t = c.args.from.now in
     let u = c.args.into.now in
     let x = c.loop-x.x in
@@ -31,8 +31,8 @@ returns-in-err-next c =
     let n = c.index-node.result.now in
     let root = read_root t c.requires.from x l n c.index-node.ensures in
     let image = read_root u c.requires.into x (omega (arith, c.requires.variables)) c.index-image.result.now c.index-image.ensures in
-    let e = c.in-err-next.ensures in
-    rw c.from-residual.ensures (λ m f map. e.1 (sym (c.loop-x.invariant.0.forced m f map n e.0) ∙ ap f (sym root) ∙ map.roots x l ∙ image))
+    let e = c.in_err-next.ensures in
+    rw c.from_residual.ensures (λ m f map. e.1 (sym (c.loop-x.invariant.0.forced m f map n e.0) ∙ ap f (sym root) ∙ map.roots x l ∙ image))
 
 pub loop-x-preserved : goal.loop-x-preserved
 loop-x-preserved c =
@@ -43,11 +43,11 @@ loop-x-preserved c =
     let n = c.index-node.result.now in
     let w = c.index-image.result.now in
     let next = c.loop-x.next in
-    let r = c.in-ok-next.next in
+    let r = c.in_ok-next.next in
     let root = read_root t c.requires.from x l n c.index-node.ensures in
     let there : x < u.vars = omega (arith, c.requires.variables) in
     let image = read_root u c.requires.into x there w c.index-image.ensures in
-    let e = c.in-ok-next.ensures in
+    let e = c.in_ok-next.ensures in
     let inside : n < t.used = omega (arith, root, c.requires.from.roots_inside x l) in
     let w_in : w < u.used = omega (arith, image, c.requires.into.roots_inside x there) in (
       mapped_more (graph t) (graph u) (by_variable x) (by_variable (x + 1)) n next r w c.loop-x.images c.place.new.images (l, root) (λ q. tt) (next_variable (graph t) x) e.0 e.2 e.1 w_in image

@@ -10,8 +10,8 @@ use Rattle.comparing.specs.Images.{MappedUpTo}
 use Rattle.comparing.proofs.Mapping.{at_most, images_map}
 use Rattle.comparing.proofs.maps.maps.Goals as goal
 
-pub place-variables-requires : goal.place-variables-requires
-place-variables-requires g c =
+pub place_variables-requires : goal.place_variables-requires
+place_variables-requires g c =
     let a = c.args.from.now in
     let b = c.args.into.now in
     let p = sym c.table-source.ensures in
@@ -24,13 +24,13 @@ place-variables-requires g c =
       variables = c.if-source-target.false;
     }
 
-pub returns-in-default : goal.returns-in-default
-returns-in-default g c f map =
+pub returns-in_default : goal.returns-in_default
+returns-in_default g c f map =
     let m = g.K.Kind.meaning c.args.kind.now in
-    c.in-default.ensures m f (subst₂ (λ (x y : Table). Map m (graph x) (graph y) f) (sym c.table-source.ensures) (sym c.table-target.ensures) map)
+    c.in_default.ensures m f (subst₂ (λ (x y : Table). Map m (graph x) (graph y) f) (sym c.table-source.ensures) (sym c.table-target.ensures) map)
 
-pub place-targets-requires : goal.place-targets-requires
-place-targets-requires g c =
+pub place_targets-requires : goal.place_targets-requires
+place_targets-requires g c =
     let a = c.args.from.now in
     let b = c.args.into.now in
     let p = sym c.table-source.ensures in
@@ -57,8 +57,8 @@ images_end t u i next images all ordered s =
     let e = subst (λ (z : ℕ). MappedUpTo (graph t) (graph u) (by_attribute z 0) next images) all s in
     (e, at_most next t.used (graph t) ordered (λ bf. all_numbered (graph t) bf next e.numbered))
 
-pub values-below-requires : goal.values-below-requires
-values-below-requires g c =
+pub values_below-requires : goal.values_below-requires
+values_below-requires g c =
     let a = c.args.from.now in
     let b = c.args.into.now in
     let p = sym c.table-source.ensures in
@@ -88,6 +88,6 @@ returns g c =
     let u = c.table-target.result.now in
     let p = c.table-source.ensures in
     let end = images_end t u c.loop-node.node c.loop-node.next c.loop-node.images (omega (arith, c.loop-node.auto.node-end, c.loop-node-test.false)) (subst (λ (z : Table). ∥ BreadthFirst (graph z) ∥₁) (sym p) a.ordered) c.loop-node.invariant.0 in
-    let r = c.values-below.result in
+    let r = c.values_below.result in
     subst₂ (λ (x y : Table). MatchBool r ((f : ℕ → ℕ) × Map m (graph x) (graph y) f) ((f : ℕ → ℕ) → Map m (graph x) (graph y) f → ⊥)) p c.table-target.ensures
-    (answer m (graph t) (graph u) c.loop-node.next c.loop-node.images r c.if-source-target.false end.1 end.0 c.values-below.ensures)
+    (answer m (graph t) (graph u) c.loop-node.next c.loop-node.images r c.if-source-target.false end.1 end.0 c.values_below.ensures)

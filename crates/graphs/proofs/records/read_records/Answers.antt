@@ -16,7 +16,7 @@ loop-node-preserved g c =
     let bs = c.args.bytes.now in
     let k = c.loop-node.node in
     let inv = c.loop-node.invariant in
-    let new = c.in-ok-row.ensures in
+    let new = c.in_ok-row.ensures in
     let next = start_more bs k c.loop-node.place inv.1 in
     let fits : start bs (k + 1) ≤ table_place bs = subst (λ (z : ℕ). start bs z ≤ table_place bs) (sym (add-one k)) new.0.fits in
     let place = c.requires.counts.place in
@@ -24,7 +24,7 @@ loop-node-preserved g c =
       right_more m bs k inv.0 new.0,
       next,
       within,
-      rows_more m bs c.loop-node.rows k c.in-ok-row.row (omega (arith, c.loop-node.auto.rows, c.requires.room, c.requires.counts.nodes, c.requires.counts.counted.nodes, c.loop-node-test.true)) new.0 new.1 inv.3,
+      rows_more m bs c.loop-node.rows k c.in_ok-row.row (omega (arith, c.loop-node.auto.rows, c.requires.room, c.requires.counts.nodes, c.requires.counts.counted.nodes, c.loop-node-test.true)) new.0 new.1 inv.3,
     )
 
 pub returns : goal.returns

@@ -16,10 +16,10 @@ loop-x-preserved c =
     let x = c.loop-x.x in
     let of = c.requires.counts in
     let inv = c.loop-x.invariant in
-    let is : c.u16-at-root.result ≡ root_at bs x = c.u16-at-root.ensures ∙ ap (λ (z : ℕ). field bs (z + 2 * x) 2) of.place in
-    let inside : c.u16-at-root.result < node_count bs = omega (arith, c.if-root-trailer.false, of.nodes) in
-    let bytes = ap (little 2) is ∙ little_field bs (λ i. omega (arith, c.type-inv.bytes i)) (table_place bs + 2 * x) 2 (omega (arith, of.counted.whole, of.variables, c.loop-x-test.true)) in (
-      roots_more bs c.loop-x.roots x c.u16-at-root.result (omega (arith, c.loop-x.auto.roots, c.requires.room, of.variables, of.counted.variables, c.loop-x-test.true)) inside bytes inv.0,
+    let is : c.u16_at-root.result ≡ root_at bs x = c.u16_at-root.ensures ∙ ap (λ (z : ℕ). field bs (z + 2 * x) 2) of.place in
+    let inside : c.u16_at-root.result < node_count bs = omega (arith, c.if-root-trailer.false, of.nodes) in
+    let bytes = ap (little 2) is ∙ little_field bs (λ i. omega (arith, c.type_inv.bytes i)) (table_place bs + 2 * x) 2 (omega (arith, of.counted.whole, of.variables, c.loop-x-test.true)) in (
+      roots_more bs c.loop-x.roots x c.u16_at-root.result (omega (arith, c.loop-x.auto.roots, c.requires.room, of.variables, of.counted.variables, c.loop-x-test.true)) inside bytes inv.0,
       λ y l. upto (λ z. root_at bs z < node_count bs) x inv.1 (subst (λ (z : ℕ). z < node_count bs) is inside) y l,
     )
   where

@@ -2,20 +2,20 @@ use Rattle.std.proofs.Common.{◌≡◌, ◌+◌, ◌≢◌, [], ◌∷◌, ◌+
 use borrow.Author.Tests.{eqb-false}
 use Rattle.hierarchy_text.proofs.Linking.{Growing, growing_more, growing_done}
 use Rattle.hierarchy_text.proofs.reading.link_one.Goals as goal
-use Rattle.hierarchy_text.proofs.reading.link_one.Goals.{else-t-ne0-via-then-t-ne0+else-is-empty, else-t-ne0-via-else-t-ne0}
+use Rattle.hierarchy_text.proofs.reading.link_one.Goals.{else-t-ne0-via-then-t-ne0+else-is_empty, else-t-ne0-via-else-t-ne0}
 
 pub loop-word-preserved : goal.loop-word-preserved
 loop-word-preserved c =
     let t = c.args.t in let k = c.loop-word.word-index in let links = c.loop-word.links in
-    let e : vec_items c.push.new.self ≡ vec_items links ++ (record { subtype = t; supertype = c.in-ok-supertype.supertype }) ∷ [] = search rules in
-    subst (λ x. Growing t (k + 1) x) (sym e) (growing_more t k c.in-ok-supertype.supertype (vec_items links) c.loop-word.invariant c.in-ok-supertype.ensures.0)
+    let e : vec_items c.push.new.self ≡ vec_items links ++ (record { subtype = t; supertype = c.in_ok-supertype.supertype }) ∷ [] = search rules in
+    subst (λ x. Growing t (k + 1) x) (sym e) (growing_more t k c.in_ok-supertype.supertype (vec_items links) c.loop-word.invariant c.in_ok-supertype.ensures.0)
 
 pub returns : goal.returns
 returns c =
     growing_done c.args.t c.loop-word.word-index (vec_items c.loop-word.links) c.loop-word.invariant
     (λ h. elim c.else-t-ne0.branch [
-      | else-t-ne0-via-then-t-ne0+else-is-empty w ↦
-          let some : vec_len c.index-entries-t.result.supertypes ≢ 0 = eqb-false _ 0 (sym w.is-empty-then-t-ne0.ensures ∙ w.if-is-empty.false) in
+      | else-t-ne0-via-then-t-ne0+else-is_empty w ↦
+          let some : vec_len c.index-entries-t.result.supertypes ≢ 0 = eqb-false _ 0 (sym w.is_empty-then-t-ne0.ensures ∙ w.if-is_empty.false) in
           omega (arith, c.deref-word-items.ensures.len)
       | else-t-ne0-via-else-t-ne0 w ↦ absurd (omega arith)
     ])

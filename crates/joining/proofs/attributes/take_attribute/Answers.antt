@@ -6,12 +6,12 @@ use Rattle.joining.specs.declared.workspace.Pair.{Pair}
 use Rattle.joining.proofs.Taking.{edged_same, read_row, takes_nothing, takes_pair, takes_target, value_kept, edge_there, edge_kept}
 use Rattle.joining.proofs.attributes.take_attribute.Goals as goal
 
-pub returns-in-default : goal.returns-in-default
-returns-in-default c =
+pub returns-in_default : goal.returns-in_default
+returns-in_default c =
     let t = c.args.table.now in
     let long = t.rows.ok.0 in
     let read = read_row (vec_items t.rows) c.args.from c.index.result.now (omega arith) c.index.ensures in
-    let lacks = sym (ap (λ (r : Node). edge_of r c.args.attribute) read) ∙ c.in-default.ensures in
+    let lacks = sym (ap (λ (r : Node). edge_of r c.args.attribute) read) ∙ c.in_default.ensures in
     record {
       edged = edged_same t;
       takes = takes_nothing (graph t).edge (waiting c.args.queue.now) c.args.to c.args.from c.args.attribute lacks;

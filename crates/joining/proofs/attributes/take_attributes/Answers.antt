@@ -22,14 +22,14 @@ loop-attribute-init c =
       refl,
     )
 
-pub take-attribute-requires : goal.take-attribute-requires
-take-attribute-requires c =
+pub take_attribute-requires : goal.take_attribute-requires
+take_attribute-requires c =
     let inv = c.loop-attribute.invariant in
     record {
       to = omega (arith, inv.0.rows);
       from = omega (arith, inv.0.rows);
       small = c.in-Some.ensures.below;
-      room = omega (arith, inv.2, inv.3, c.without-lowest-rest.ensures.fewer);
+      room = omega (arith, inv.2, inv.3, c.without_lowest-rest.ensures.fewer);
     }
 
 pub loop-attribute-preserved : goal.loop-attribute-preserved
@@ -37,26 +37,26 @@ loop-attribute-preserved c =
     let inv = c.loop-attribute.invariant in
     let t = c.args.table.now in
     let now = c.loop-attribute.table in
-    let then = c.take-attribute.new.table in
+    let then = c.take_attribute.new.table in
     let pairs = waiting c.loop-attribute.queue in
-    let pairs' = waiting c.take-attribute.new.queue in
+    let pairs' = waiting c.take_attribute.new.queue in
     let low = c.in-Some.ensures in
-    let without = c.without-lowest-rest.ensures in
-    let e = c.take-attribute.ensures in (
+    let without = c.without_lowest-rest.ensures in
+    let e = c.take_attribute.ensures in (
       edged_then t now then inv.0 e.edged,
-      taking_more (graph t).edge (Waits (waiting c.args.queue.now)) c.args.to c.args.from c.loop-attribute.rest c.in-Some.attribute c.without-lowest-rest.result (graph now).edge pairs (graph then).edge pairs'
+      taking_more (graph t).edge (Waits (waiting c.args.queue.now)) c.args.to c.args.from c.loop-attribute.rest c.in-Some.attribute c.without_lowest-rest.result (graph now).edge pairs (graph then).edge pairs'
           c.requires.two low without inv.1 e.takes,
       omega (
         arith,
         inv.2,
-        longer_by_one (graph t).edge (Waits (waiting c.args.queue.now)) c.args.to c.args.from c.loop-attribute.rest c.in-Some.attribute c.without-lowest-rest.result (graph now).edge pairs (graph then).edge pairs'
+        longer_by_one (graph t).edge (Waits (waiting c.args.queue.now)) c.args.to c.args.from c.loop-attribute.rest c.in-Some.attribute c.without_lowest-rest.result (graph now).edge pairs (graph then).edge pairs'
             c.requires.two low without inv.1 e.takes,
       ),
       e.room ∙ inv.3,
     )
 
 pub loop-attribute-smaller : goal.loop-attribute-smaller
-loop-attribute-smaller c = c.without-lowest-rest.ensures.smaller
+loop-attribute-smaller c = c.without_lowest-rest.ensures.smaller
 
 pub returns : goal.returns
 returns c =
@@ -64,7 +64,7 @@ returns c =
     let t = c.args.table.now in
     record {
       edged = inv.0;
-      takes = taking_ended (graph t).edge (Waits (waiting c.args.queue.now)) c.args.to c.args.from c.loop-attribute.rest (graph c.loop-attribute.table).edge (Waits (waiting c.loop-attribute.queue)) c.in-default.ensures inv.1;
+      takes = taking_ended (graph t).edge (Waits (waiting c.args.queue.now)) c.args.to c.args.from c.loop-attribute.rest (graph c.loop-attribute.table).edge (Waits (waiting c.loop-attribute.queue)) c.in_default.ensures inv.1;
       longer = omega (arith, inv.2);
       room = inv.3;
     }

@@ -5,5 +5,5 @@ use Rattle.listings.proofs.parts.put_entry.Goals as goal
 
 pub returns : goal.returns
 returns c =
-    placed_append c.args.at c.put-u8-at.result c.put-u16.result (c.args.attribute ∷ []) (little 2 c.args.target) c.args.out.now
-    c.put-u8-at.new.out c.put-u16.new.out (omega (arith, c.requires.room)) c.put-u8-at.ensures c.put-u16.ensures
+    placed_append c.args.at c.put_u8-at.result c.put_u16.result (c.args.attribute ∷ []) (little 2 c.args.target) c.args.out.now
+    c.put_u8-at.new.out c.put_u16.new.out (omega (arith, c.requires.room)) c.put_u8-at.ensures c.put_u16.ensures

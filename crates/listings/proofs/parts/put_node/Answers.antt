@@ -6,17 +6,17 @@ use Rattle.listings.proofs.Lengths.{degree_bound, bytes_parts, bytes_before_entr
 use Rattle.listings.proofs.Placing.{placed_append}
 use Rattle.listings.proofs.parts.put_node.Goals as goal
 
-pub put-u64-at-requires : goal.put-u64-at-requires
-put-u64-at-requires c = omega (arith, c.requires, bytes_before_entries c.args.node.now)
+pub put_u64-at-requires : goal.put_u64-at-requires
+put_u64-at-requires c = omega (arith, c.requires, bytes_before_entries c.args.node.now)
 
-pub overflow-cast-degree : goal.overflow-cast-degree
-overflow-cast-degree c = omega (arith, degree_bound c.args.node.now c.degree.result c.degree.ensures)
+pub overflow_cast-degree : goal.overflow_cast-degree
+overflow_cast-degree c = omega (arith, degree_bound c.args.node.now c.degree.result c.degree.ensures)
 
-pub put-u8-at-requires : goal.put-u8-at-requires
-put-u8-at-requires c = omega (arith, c.requires, bytes_before_entries c.args.node.now, c.put-u64-at.ensures.end)
+pub put_u8-at-requires : goal.put_u8-at-requires
+put_u8-at-requires c = omega (arith, c.requires, bytes_before_entries c.args.node.now, c.put_u64-at.ensures.end)
 
-pub put-entries-requires : goal.put-entries-requires
-put-entries-requires c = omega (arith, c.requires, bytes_before_entries c.args.node.now, c.put-u64-at.ensures.end, c.put-u8-at.ensures.end)
+pub put_entries-requires : goal.put_entries-requires
+put_entries-requires c = omega (arith, c.requires, bytes_before_entries c.args.node.now, c.put_u64-at.ensures.end, c.put_u8-at.ensures.end)
 
 pub returns : goal.returns
 returns c =
@@ -25,8 +25,8 @@ returns c =
     let out = c.args.out.now in
     let d = c.degree.result in
     let front =
-    placed_append at c.put-u64-at.result c.put-u8-at.result (little 8 r.value) (d ∷ []) out c.put-u64-at.new.out c.put-u8-at.new.out
-    (omega (arith, c.requires)) c.put-u64-at.ensures c.put-u8-at.ensures in
-    subst (λ (bytes : List ℕ). Placed at bytes out c.put-entries.new.out c.put-entries.result) (bytes_parts r d c.degree.ensures)
-    (placed_append at c.put-u8-at.result c.put-entries.result (little 8 r.value ++ (d ∷ [])) (entries_of r) out c.put-u8-at.new.out c.put-entries.new.out
-    (omega (arith, c.requires)) front c.put-entries.ensures)
+    placed_append at c.put_u64-at.result c.put_u8-at.result (little 8 r.value) (d ∷ []) out c.put_u64-at.new.out c.put_u8-at.new.out
+    (omega (arith, c.requires)) c.put_u64-at.ensures c.put_u8-at.ensures in
+    subst (λ (bytes : List ℕ). Placed at bytes out c.put_entries.new.out c.put_entries.result) (bytes_parts r d c.degree.ensures)
+    (placed_append at c.put_u8-at.result c.put_entries.result (little 8 r.value ++ (d ∷ [])) (entries_of r) out c.put_u8-at.new.out c.put_entries.new.out
+    (omega (arith, c.requires)) front c.put_entries.ensures)

@@ -13,8 +13,8 @@ loop-node-init c =
     let out = c.args.out.now in
     subst (λ (bytes : List ℕ). Placed 0 bytes out out 0) (sym (no_nodes (graph c.args.table.now))) (placed_none 0 out)
 
-pub put-node-at-requires : goal.put-node-at-requires
-put-node-at-requires c =
+pub put_node-at-requires : goal.put_node-at-requires
+put_node-at-requires c =
     let t = c.args.table.now in
     let s = c.requires.sound in
     let i = c.loop-node.node-index in
@@ -30,8 +30,8 @@ loop-node-preserved c =
     let s = c.requires.sound in
     let i = c.loop-node.node-index in
     let read = front_read t.used 272 c.deref.ensures.value (c.deref.ensures.len ∙ s.rows) s.used i blank c.loop-node-test.true in
-    placed_node t i 0 c.loop-node.at c.put-node-at.result c.args.out.now c.loop-node.out c.put-node-at.new.out (omega arith) c.loop-node.invariant
-    (subst (λ (r : Node). Placed c.loop-node.at (bytes_of r) c.loop-node.out c.put-node-at.new.out c.put-node-at.result) read c.put-node-at.ensures)
+    placed_node t i 0 c.loop-node.at c.put_node-at.result c.args.out.now c.loop-node.out c.put_node-at.new.out (omega arith) c.loop-node.invariant
+    (subst (λ (r : Node). Placed c.loop-node.at (bytes_of r) c.loop-node.out c.put_node-at.new.out c.put_node-at.result) read c.put_node-at.ensures)
 
 pub returns : goal.returns
 returns c =

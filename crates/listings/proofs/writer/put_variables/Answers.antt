@@ -13,8 +13,8 @@ loop-root-init c =
     let out = c.args.out.now in
     subst (λ (bytes : List ℕ). Placed c.args.at bytes out out c.args.at) (sym (no_variables (graph c.args.table.now))) (placed_none c.args.at out)
 
-pub put-u16-at-requires : goal.put-u16-at-requires
-put-u16-at-requires c =
+pub put_u16-at-requires : goal.put_u16-at-requires
+put_u16-at-requires c =
     let t = c.args.table.now in
     let s = c.requires.sound in
     let shown = front_length t.vars 64 c.deref.ensures.value (c.deref.ensures.len ∙ s.roots) s.vars in
@@ -27,9 +27,9 @@ loop-root-preserved c =
     let s = c.requires.sound in
     let i = c.loop-root.root-index in
     let read = front_read t.vars 64 c.deref.ensures.value (c.deref.ensures.len ∙ s.roots) s.vars i 0 c.loop-root-test.true in
-    placed_variable (graph t) i c.args.at c.loop-root.at c.put-u16-at.result c.args.out.now c.loop-root.out c.put-u16-at.new.out
+    placed_variable (graph t) i c.args.at c.loop-root.at c.put_u16-at.result c.args.out.now c.loop-root.out c.put_u16-at.new.out
     (omega (arith, c.requires.room)) c.loop-root.invariant
-    (subst (λ (n : ℕ). Placed c.loop-root.at (little 2 n) c.loop-root.out c.put-u16-at.new.out c.put-u16-at.result) read c.put-u16-at.ensures)
+    (subst (λ (n : ℕ). Placed c.loop-root.at (little 2 n) c.loop-root.out c.put_u16-at.new.out c.put_u16-at.result) read c.put_u16-at.ensures)
 
 pub returns : goal.returns
 returns c =

@@ -8,8 +8,8 @@ use Rattle.listings.proofs.writer.size.Goals as goal
 pub loop-node-init : goal.loop-node-init
 loop-node-init c = omega (arith, ap length (no_nodes (graph c.args.table.now)))
 
-pub overflow-add-total-in-loop-node-2 : goal.overflow-add-total-in-loop-node-2
-overflow-add-total-in-loop-node-2 c =
+pub overflow_add-total-in-loop-node-2 : goal.overflow_add-total-in-loop-node-2
+overflow_add-total-in-loop-node-2 c =
     let t = c.args.table.now in
     let i = c.loop-node.node-index in
     let shown = front_length t.used 272 c.deref.ensures.value (c.deref.ensures.len ∙ c.requires.rows) c.requires.used in

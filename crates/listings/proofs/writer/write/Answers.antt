@@ -7,10 +7,10 @@ use Rattle.listings.proofs.writer.write.Goals as goal
 pub returns-then-out-needed : goal.returns-then-out-needed
 returns-then-out-needed c = record { size = c.size-needed.ensures; short = omega (arith, c.if-out-needed.true, c.size-needed.ensures); kept = refl }
 
-pub put-listing-requires : goal.put-listing-requires
-put-listing-requires c = record { sound = c.requires; room = omega (arith, c.if-out-needed.false, c.size-needed.ensures) }
+pub put_listing-requires : goal.put_listing-requires
+put_listing-requires c = record { sound = c.requires; room = omega (arith, c.if-out-needed.false, c.size-needed.ensures) }
 
 pub returns : goal.returns
 returns c =
-    placed_front (written (graph c.args.table.now)) c.args.out.now c.put-listing.new.out c.put-listing.result
-    (omega (arith, c.if-out-needed.false, c.size-needed.ensures)) c.put-listing.ensures
+    placed_front (written (graph c.args.table.now)) c.args.out.now c.put_listing.new.out c.put_listing.result
+    (omega (arith, c.if-out-needed.false, c.size-needed.ensures)) c.put_listing.ensures

@@ -4,9 +4,9 @@ use Rattle.numbering.proofs.tests.rows_are_numbered_breadth_first.Goals as goal
 
 pub grow-end-requires : goal.grow-end-requires
 grow-end-requires c =
-    let one : c.add-variable.new.self.used ≡ 1 = omega (arith, c.add-variable.ensures.new.nodes, c.in-ok-table.ensures.1) in
+    let one : c.add_variable.new.self.used ≡ 1 = omega (arith, c.add_variable.ensures.new.nodes, c.in_ok-table.ensures.1) in
     record {
-      sound = c.add-variable.ensures.sound;
+      sound = c.add_variable.ensures.sound;
       inside = omega arith;
       rows_left = omega arith;
       small = also (omega arith) (also (omega arith) end);
@@ -14,7 +14,7 @@ grow-end-requires c =
 
 pub grow-near-requires : goal.grow-near-requires
 grow-near-requires c =
-    let one : c.add-variable.new.self.used ≡ 1 = omega (arith, c.add-variable.ensures.new.nodes, c.in-ok-table.ensures.1) in
+    let one : c.add_variable.new.self.used ≡ 1 = omega (arith, c.add_variable.ensures.new.nodes, c.in_ok-table.ensures.1) in
     record {
       sound = c.grow-end.ensures.sound;
       inside = omega (arith, c.grow-end.ensures.least);

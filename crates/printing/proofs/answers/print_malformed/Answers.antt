@@ -3,5 +3,5 @@ use Rattle.notation.specs.Reads.{number}
 use Rattle.printing.proofs.Bounds.{malformed_fits}
 use Rattle.printing.proofs.answers.print_malformed.Goals as goal
 
-pub put-malformed-requires : goal.put-malformed-requires
-put-malformed-requires c = omega (arith, c.requires, malformed_fits (number c.args.why) c.args.why)
+pub put_malformed-requires : goal.put_malformed-requires
+put_malformed-requires c = omega (arith, c.requires, malformed_fits (number c.args.why) c.args.why)

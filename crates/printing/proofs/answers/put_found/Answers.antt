@@ -6,15 +6,15 @@ use Rattle.printing.proofs.Accepted.{fitted}
 use Rattle.printing.proofs.Bounds.{value_fits}
 use Rattle.printing.proofs.answers.put_found.Goals as goal
 
-pub put-decimal-at-requires : goal.put-decimal-at-requires
-put-decimal-at-requires c =
+pub put_decimal-at-requires : goal.put_decimal-at-requires
+put_decimal-at-requires c =
     let v = c.in-Some.value in
     omega (arith, c.requires, value_fits v, length-append (decimal v) line_end)
 
 pub put-requires : goal.put-requires
 put-requires c =
     let v = c.in-Some.value in
-    omega (arith, c.requires, value_fits v, length-append (decimal v) line_end, c.put-decimal-at.ensures.end)
+    omega (arith, c.requires, value_fits v, length-append (decimal v) line_end, c.put_decimal-at.ensures.end)
 
 pub returns-in-Some : goal.returns-in-Some
 returns-in-Some c =
@@ -22,4 +22,4 @@ returns-in-Some c =
     let out = c.args.out.now in
     subst (λ (found : Option ℕ). Fitted (found_text found) out c.put.new.out c.put.result) (sym c.in-Some.is)
     (fitted (decimal v ++ line_end) out c.put.new.out c.put.result (value_fits v) c.requires
-    (placed_append 0 c.put-decimal-at.result c.put.result (decimal v) line_end out c.put-decimal-at.new.out c.put.new.out (omega arith) c.put-decimal-at.ensures c.put.ensures))
+    (placed_append 0 c.put_decimal-at.result c.put.result (decimal v) line_end out c.put_decimal-at.new.out c.put.new.out (omega arith) c.put_decimal-at.ensures c.put.ensures))

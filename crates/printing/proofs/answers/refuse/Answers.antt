@@ -3,5 +3,5 @@ use Rattle.answers.specs.Refusals.{number}
 use Rattle.printing.proofs.Bounds.{refusal_fits}
 use Rattle.printing.proofs.answers.refuse.Goals as goal
 
-pub put-refusal-requires : goal.put-refusal-requires
-put-refusal-requires c = omega (arith, c.requires.room, refusal_fits c.args.trail.now c.requires.short (number c.args.refusal) c.args.refusal)
+pub put_refusal-requires : goal.put_refusal-requires
+put_refusal-requires c = omega (arith, c.requires.room, refusal_fits c.args.trail.now c.requires.short (number c.args.refusal) c.args.refusal)

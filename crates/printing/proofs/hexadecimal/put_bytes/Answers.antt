@@ -12,14 +12,14 @@ loop-byte-init c =
     let out = c.args.out.now in
     subst (λ (bytes : List ℕ). Placed c.args.at bytes out out c.args.at) (sym (flat_none hex_byte)) (placed_none c.args.at out)
 
-pub put-byte-at-requires : goal.put-byte-at-requires
-put-byte-at-requires c =
+pub put_byte-at-requires : goal.put_byte-at-requires
+put_byte-at-requires c =
     omega (arith, c.requires, c.loop-byte.invariant.end, c.loop-byte.auto.out, flat_room hex_byte c.args.bytes.now c.loop-byte.byte-index c.loop-byte-test.true)
 
 pub loop-byte-preserved : goal.loop-byte-preserved
 loop-byte-preserved c =
-    placed_next hex_byte c.args.bytes.now c.loop-byte.byte-index c.loop-byte-test.true c.args.at c.loop-byte.at c.put-byte-at.result
-    c.args.out.now c.loop-byte.out c.put-byte-at.new.out (omega (arith, c.requires)) c.loop-byte.invariant c.put-byte-at.ensures
+    placed_next hex_byte c.args.bytes.now c.loop-byte.byte-index c.loop-byte-test.true c.args.at c.loop-byte.at c.put_byte-at.result
+    c.args.out.now c.loop-byte.out c.put_byte-at.new.out (omega (arith, c.requires)) c.loop-byte.invariant c.put_byte-at.ensures
 
 pub returns : goal.returns
 returns c =

@@ -11,19 +11,19 @@ pub returns-then-n-lt10 : goal.returns-then-n-lt10
 returns-then-n-lt10 t c =
     subst (λ (bytes : List ℕ). Placed c.args.at bytes c.args.out.now c.put.new.out c.put.result) (sym (decimal_digit c.args.n (omega (arith, c.if-n-lt10.true)))) c.put.ensures
 
-pub put-decimal-at-requires : goal.put-decimal-at-requires
-put-decimal-at-requires t c =
+pub put_decimal-at-requires : goal.put_decimal-at-requires
+put_decimal-at-requires t c =
     let n = c.args.n in
     omega (arith, c.requires, ap length (decimal_step n (omega arith) (omega arith)), length-append (decimal (n / 10)) ((48 + n % 10) ∷ []))
 
 pub put-requires-2 : goal.put-requires-2
 put-requires-2 t c =
     let n = c.args.n in
-    omega (arith, c.requires, ap length (decimal_step n (omega arith) (omega arith)), length-append (decimal (n / 10)) ((48 + n % 10) ∷ []), c.put-decimal-at.ensures.end)
+    omega (arith, c.requires, ap length (decimal_step n (omega arith) (omega arith)), length-append (decimal (n / 10)) ((48 + n % 10) ∷ []), c.put_decimal-at.ensures.end)
 
 pub returns : goal.returns
 returns t c =
     let n = c.args.n in
     subst (λ (bytes : List ℕ). Placed c.args.at bytes c.args.out.now c.put-2.new.out c.put-2.result) (sym (decimal_step n (omega arith) (omega arith)))
-    (placed_append c.args.at c.put-decimal-at.result c.put-2.result (decimal (n / 10)) ((48 + n % 10) ∷ []) c.args.out.now c.put-decimal-at.new.out c.put-2.new.out
-    (omega (arith, c.requires)) c.put-decimal-at.ensures c.put-2.ensures)
+    (placed_append c.args.at c.put_decimal-at.result c.put-2.result (decimal (n / 10)) ((48 + n % 10) ∷ []) c.args.out.now c.put_decimal-at.new.out c.put-2.new.out
+    (omega (arith, c.requires)) c.put_decimal-at.ensures c.put-2.ensures)

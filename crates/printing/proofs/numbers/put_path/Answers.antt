@@ -11,8 +11,8 @@ loop-attribute-init c =
     let out = c.args.out.now in
     subst (λ (bytes : List ℕ). Placed c.args.at bytes out out c.args.at) (sym (flat_none attribute_text)) (placed_none c.args.at out)
 
-pub put-attribute-at-requires : goal.put-attribute-at-requires
-put-attribute-at-requires c =
+pub put_attribute-at-requires : goal.put_attribute-at-requires
+put_attribute-at-requires c =
     let path = c.args.path.now in
     omega (
       arith,
@@ -25,8 +25,8 @@ put-attribute-at-requires c =
 
 pub loop-attribute-preserved : goal.loop-attribute-preserved
 loop-attribute-preserved c =
-    placed_next attribute_text c.args.path.now c.loop-attribute.attribute-index c.loop-attribute-test.true c.args.at c.loop-attribute.at c.put-attribute-at.result
-    c.args.out.now c.loop-attribute.out c.put-attribute-at.new.out (omega (arith, c.requires)) c.loop-attribute.invariant c.put-attribute-at.ensures
+    placed_next attribute_text c.args.path.now c.loop-attribute.attribute-index c.loop-attribute-test.true c.args.at c.loop-attribute.at c.put_attribute-at.result
+    c.args.out.now c.loop-attribute.out c.put_attribute-at.new.out (omega (arith, c.requires)) c.loop-attribute.invariant c.put_attribute-at.ensures
 
 pub returns : goal.returns
 returns c =

@@ -13,24 +13,24 @@ nameless trail r (inr (inr (inl e))) = ap (named trail) e
 nameless trail r (inr (inr (inr (inl e)))) = ap (named trail) e
 nameless trail r (inr (inr (inr (inr e)))) = ap (named trail) e
 
-pub put-spaced-at-requires : goal.put-spaced-at-requires
-put-spaced-at-requires c =
+pub put_spaced-at-requires : goal.put_spaced-at-requires
+put_spaced-at-requires c =
     let w = c.in-NoAttribute in
     let same = ap (λ (r : Refusal). length (named c.args.trail.now r)) w.is in
     omega (arith, c.requires, same, length-append (spaced (decimal w.side)) (spaced (decimal w.position)))
 
-pub put-spaced-requires : goal.put-spaced-requires
-put-spaced-requires c =
+pub put_spaced-requires : goal.put_spaced-requires
+put_spaced-requires c =
     let w = c.in-NoAttribute in
     let same = ap (λ (r : Refusal). length (named c.args.trail.now r)) w.is in
-    omega (arith, c.requires, same, length-append (spaced (decimal w.side)) (spaced (decimal w.position)), c.put-spaced-at.ensures.end)
+    omega (arith, c.requires, same, length-append (spaced (decimal w.side)) (spaced (decimal w.position)), c.put_spaced-at.ensures.end)
 
 pub returns-in-NoAttribute : goal.returns-in-NoAttribute
 returns-in-NoAttribute c =
     let w = c.in-NoAttribute in
-    subst (λ (r : Refusal). Placed c.args.at (named c.args.trail.now r) c.args.out.now c.put-spaced.new.out c.put-spaced.result) (sym w.is)
-    (placed_append c.args.at c.put-spaced-at.result c.put-spaced.result (spaced (decimal w.side)) (spaced (decimal w.position)) c.args.out.now
-    c.put-spaced-at.new.out c.put-spaced.new.out (omega (arith, c.requires)) c.put-spaced-at.ensures c.put-spaced.ensures)
+    subst (λ (r : Refusal). Placed c.args.at (named c.args.trail.now r) c.args.out.now c.put_spaced.new.out c.put_spaced.result) (sym w.is)
+    (placed_append c.args.at c.put_spaced-at.result c.put_spaced.result (spaced (decimal w.side)) (spaced (decimal w.position)) c.args.out.now
+    c.put_spaced-at.new.out c.put_spaced.new.out (omega (arith, c.requires)) c.put_spaced-at.ensures c.put_spaced.ensures)
 
 pub returns-in-NoSuchValue : goal.returns-in-NoSuchValue
 returns-in-NoSuchValue c =

@@ -5,5 +5,5 @@ use Rattle.printing.proofs.refusals.put_number.Goals as goal
 
 pub returns : goal.returns
 returns c =
-    placed_append 0 c.put-at.result c.put-spaced.result (codes "refused") (spaced (decimal c.args.number)) c.args.out.now c.put-at.new.out c.put-spaced.new.out
-    (omega (arith, c.requires)) c.put-at.ensures c.put-spaced.ensures
+    placed_append 0 c.put-at.result c.put_spaced.result (codes "refused") (spaced (decimal c.args.number)) c.args.out.now c.put-at.new.out c.put_spaced.new.out
+    (omega (arith, c.requires)) c.put-at.ensures c.put_spaced.ensures

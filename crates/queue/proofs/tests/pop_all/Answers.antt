@@ -46,7 +46,7 @@ whole all rest out given n none e k =
 
 pub returns : goal.returns
 returns g c =
-    let none = c.in-default.ensures.first in
+    let none = c.in_default.ensures.first in
     let i = c.loop-x.invariant in
     let all = waiting c.args.q.now in
     let rest = waiting c.loop-x.q in

@@ -11,6 +11,6 @@ pub arrange-requires : goal.arrange-requires
 arrange-requires c =
     record { sound = sound_known c.args.self.now.worked; room = sound_known c.args.self.now.sound; numbered = c.number.ensures }
 
-pub invariant-of-self : goal.invariant-of-self
-invariant-of-self c =
+pub invariant_of-self : goal.invariant_of-self
+invariant_of-self c =
     (c.args.self.now.worked, (c.args.self.now.roomy, (∣ c.arrange.ensures.sound ∣₁, (∣ c.number.ensures.room ∣₁, (c.args.self.now.joinable, (c.args.self.now.visitable, tt))))))

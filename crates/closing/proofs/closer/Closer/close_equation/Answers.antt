@@ -37,8 +37,8 @@ grow-right-requires g c =
       small = c.requires.right.small;
     }
 
-pub invariant-of-self : goal.invariant-of-self
-invariant-of-self g c =
+pub invariant_of-self : goal.invariant_of-self
+invariant_of-self g c =
     (∣ c.settle.ensures.sound ∣₁, (∣ c.settle.ensures.enough ∣₁, (c.args.self.now.sound, (c.args.self.now.numbered, (c.args.self.now.joinable, (c.args.self.now.visitable, tt))))))
 
 pub returns : goal.returns

@@ -24,8 +24,8 @@ grow-end-requires g c =
       small = c.requires.left.small;
     }
 
-pub invariant-of-self : goal.invariant-of-self
-invariant-of-self g c =
+pub invariant_of-self : goal.invariant_of-self
+invariant_of-self g c =
     (∣ c.give.ensures.sound c.grow-end.ensures.sound ∣₁, (∣ c.give.ensures.enough ∣₁, (c.args.self.now.sound, (c.args.self.now.numbered, (c.args.self.now.joinable, (c.args.self.now.visitable, tt))))))
 
 pub returns : goal.returns

@@ -13,8 +13,8 @@ pub begin-requires : goal.begin-requires
 begin-requires c =
     record { enough = work_room c.args.self.now.roomy; own = sound_known c.args.self.now.worked; from = c.requires.sound }
 
-pub invariant-of-self : goal.invariant-of-self
-invariant-of-self c =
+pub invariant_of-self : goal.invariant_of-self
+invariant_of-self c =
     (∣ c.begin.ensures.copied.sound ∣₁, (∣ c.begin.ensures.enough ∣₁, (c.args.self.now.sound, (c.args.self.now.numbered, (c.args.self.now.joinable, (c.args.self.now.visitable, tt))))))
 
 pub returns : goal.returns

@@ -1,8 +1,8 @@
 use Rattle.std.proofs.Common.{arith}
 use Rattle.graphs.proofs.feature_graph.FeatureGraph.new.Goals as goal
 
-pub invariant-of-result : goal.invariant-of-result
-invariant-of-result c =
-    let t = c.in-ok-table.ensures in
-    let s = c.in-ok-spare.ensures in
+pub invariant_of-result : goal.invariant_of-result
+invariant_of-result c =
+    let t = c.in_ok-table.ensures in
+    let s = c.in_ok-spare.ensures in
     (∣ t.0 ∣₁, (∣ s.0 ∣₁, (omega (arith, t.1), (∣ record { mentioned = λ n l. absurd (omega (arith, t.1)); numbered_before = λ n i a l. absurd (omega (arith, t.1)); rising = λ n o k l h i. absurd (omega (arith, t.1)) } ∣₁, tt))))

@@ -12,15 +12,15 @@ use Rattle.graphs.proofs.Refusing.{listings_are_read}
 use Rattle.graphs.proofs.Whole.{inside_of}
 use Rattle.graphs.proofs.feature_graph.FeatureGraph.read.Goals as goal
 
-pub read-table-requires : goal.read-table-requires
-read-table-requires g c = sound_known c.args.self.now.room
+pub read_table-requires : goal.read_table-requires
+read_table-requires g c = sound_known c.args.self.now.room
 
-pub invariant-of-self : goal.invariant-of-self
-invariant-of-self g c = (c.args.self.now.sound, (∣ c.read-table.ensures.sound ∣₁, (c.args.self.now.few, (c.args.self.now.ordered, tt))))
+pub invariant_of-self : goal.invariant_of-self
+invariant_of-self g c = (c.args.self.now.sound, (∣ c.read_table.ensures.sound ∣₁, (c.args.self.now.few, (c.args.self.now.ordered, tt))))
 
-pub invariant-of-self-2 : goal.invariant-of-self-2
-invariant-of-self-2 g c =
-    let e = c.in-ok-read-table.ensures in
+pub invariant_of-self-2 : goal.invariant_of-self-2
+invariant_of-self-2 g c =
+    let e = c.in_ok-read_table.ensures in
     let x = sym c.swap.ensures.x-after in
     let y = sym c.swap.ensures.y-after in
     (∣ subst Sound x e.sound ∣₁, (subst (λ (z : Table). ∥ Sound z ∥₁) y c.args.self.now.sound, (subst (λ (z : Table). z.used ≤ 256) x e.cases.0.within.few_nodes, (∣ subst (λ (z : Table). BreadthFirst (graph z)) x e.cases.1 ∣₁, tt))))
@@ -29,22 +29,22 @@ pub returns : goal.returns
 returns g c =
     let m = g.K.Kind.meaning c.args.kind.now in
     let bs = c.args.bytes.now in
-    let e = c.in-ok-read-table.ensures in
+    let e = c.in_ok-read_table.ensures in
     let x = sym c.swap.ensures.x-after in
-    let t = graph c.read-table.new.table in
+    let t = graph c.read_table.new.table in
     let read = subst (λ (z : Table). Written m bs (graph z)) x e.cases.0 in
     record {
       cases = (read, subst (λ (z : Table). InOrder (graph z)) x (breadth_first_in_order t (inside_of m bs t e.cases.0) e.cases.1));
       accepted = λ h w order. (refl, written_once m bs h (graph c.swap.new.x) w read);
     }
 
-pub returns-in-err-read-table : goal.returns-in-err-read-table
-returns-in-err-read-table g c =
+pub returns-in_err-read_table : goal.returns-in_err-read_table
+returns-in_err-read_table g c =
     let m = g.K.Kind.meaning c.args.kind.now in
     let bs = c.args.bytes.now in
-    let ground = c.in-err-read-table.ensures.cases in
-    let p = err_from_is_err_and c.from-residual.result c.from-residual.ensures.1 in
+    let ground = c.in_err-read_table.ensures.cases in
+    let p = err_from_is_err_and c.from_residual.result c.from_residual.ensures.1 in
     record {
       cases = rw (p.1, p.2) (ground, refl);
-      accepted = λ h w order. absurd (listings_are_read m bs h w order c.in-err-read-table.field-0.0 ground);
+      accepted = λ h w order. absurd (listings_are_read m bs h w order c.in_err-read_table.field-0.0 ground);
     }

@@ -14,7 +14,7 @@ pub loop-u-preserved : goal.loop-u-preserved
 loop-u-preserved c =
     let sheet = c.args.self.now in let t = c.args.t in let k = c.loop-u.u - 1 in
     let e : suc k ≡ c.loop-u.u = omega arith in
-    rising_skip (vec_items sheet.links) sheet.upward t k c.loop-u.set (sym c.if-has-bit.ensures)
+    rising_skip (vec_items sheet.links) sheet.upward t k c.loop-u.set (sym c.if-has_bit.ensures)
     (subst (λ x. Rising (vec_items sheet.links) t x c.loop-u.set) (sym e) c.loop-u.invariant)
 
 pub returns : goal.returns
@@ -28,10 +28,10 @@ pub returns-then-t-len : goal.returns-then-t-len
 returns-then-t-len c =
     let sheet = c.args.self.now in none_above (vec_len sheet.entries) c.args.t (vec_items sheet.links) (omega arith)
 
-pub loop-u-preserved-then-has-bit : goal.loop-u-preserved-then-has-bit
-loop-u-preserved-then-has-bit c =
+pub loop-u-preserved-then-has_bit : goal.loop-u-preserved-then-has_bit
+loop-u-preserved-then-has_bit c =
     let sheet = c.args.self.now in let t = c.args.t in let k = c.loop-u.u - 1 in
     let e : suc k ≡ c.loop-u.u = omega arith in
-    rising_more (vec_items sheet.links) sheet.upward t k c.loop-u.set c.supertypes-set.result (sym c.if-has-bit.ensures)
-    (subst (λ x. Supertypes x k c.supertypes-set.result) c.as-slice.ensures.value c.supertypes-set.ensures)
+    rising_more (vec_items sheet.links) sheet.upward t k c.loop-u.set c.supertypes-set.result (sym c.if-has_bit.ensures)
+    (subst (λ x. Supertypes x k c.supertypes-set.result) c.as_slice.ensures.value c.supertypes-set.ensures)
     (subst (λ x. Rising (vec_items sheet.links) t x c.loop-u.set) (sym e) c.loop-u.invariant)

@@ -8,8 +8,8 @@ use Rattle.joining.specs.Workspaces.{Resolved}
 use Rattle.joining.proofs.Targets.{refilled_items, resolved_sound}
 use Rattle.joining.proofs.workspace.Workspace.resolve.Goals as goal
 
-pub resolve-rows-requires : goal.resolve-rows-requires
-resolve-rows-requires c =
+pub resolve_rows-requires : goal.resolve_rows-requires
+resolve_rows-requires c =
     let sound = c.requires.sound in
     record {
       used = omega (arith, sound.used, sound.rows, c.deref-mut.ensures.len);
@@ -21,8 +21,8 @@ resolve-rows-requires c =
 pub returns : goal.returns
 returns c =
     let w = c.args.self.now in
-    let rows = c.resolve-rows.new.rows in
-    let roots = c.resolve-roots.new.roots in
+    let rows = c.resolve_rows.new.rows in
+    let roots = c.resolve_roots.new.roots in
     let rows_long : length rows ≡ vec_len w.table.rows = search rules in
     let roots_long : length roots ≡ vec_len w.table.roots = search rules in
     let rows_are = refilled_items (vec_len w.table.rows) rows (drop (length rows) (vec_items w.table.rows)) rows_long in
@@ -41,12 +41,12 @@ returns c =
       classes = refl;
       voids = refl;
       joins = refl;
-      values = λ n. ap (λ (z : List Node). (row z n).value) rows_are ∙ c.resolve-rows.ensures.values n ∙ ap (λ (z : List Node). (row z n).value) c.deref-mut.ensures.value;
+      values = λ n. ap (λ (z : List Node). (row z n).value) rows_are ∙ c.resolve_rows.ensures.values n ∙ ap (λ (z : List Node). (row z n).value) c.deref-mut.ensures.value;
       edges = λ n a l.
-          ap (λ (z : List Node). edge_of (row z n) a) rows_are ∙ c.resolve-rows.ensures.edges n a l
+          ap (λ (z : List Node). edge_of (row z n) a) rows_are ∙ c.resolve_rows.ensures.edges n a l
           ∙ ap₂ (λ (cs : List ℕ) (rs : List Node). map (λ x. get_or cs x 0) (edge_of (row rs n) a)) c.deref.ensures.value c.deref-mut.ensures.value;
       roots = λ x l.
-          ap (λ (z : List ℕ). get_or z x 0) roots_are ∙ c.resolve-roots.ensures x l
+          ap (λ (z : List ℕ). get_or z x 0) roots_are ∙ c.resolve_roots.ensures x l
           ∙ ap₂ (λ (cs rs : List ℕ). get_or cs (get_or rs x 0) 0) c.deref-2.ensures.value c.deref-mut-2.ensures.value;
     } in
     record {

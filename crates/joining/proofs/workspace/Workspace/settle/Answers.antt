@@ -148,7 +148,7 @@ returns g c =
     let m = g.K.Kind.meaning c.args.kind.now in
     let w₀ : Workspace = record { table = c.args.self.now.table; class = c.args.self.now.class; void = c.args.self.now.void; joins = 0 } in
     let queue = c.loop-pair.queue in
-    let none_left = c.in-default.ensures.first.0 in
+    let none_left = c.in_default.ensures.first.0 in
     record {
       joined = λ values. settled m c.args.left c.args.right w₀ c.loop-pair.self c.resolve.new.self (waiting queue) (capacity queue) none_left c.loop-pair.invariant c.resolve.ensures.resolved values;
       sound = c.resolve.ensures.sound;

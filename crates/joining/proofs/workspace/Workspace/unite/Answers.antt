@@ -10,10 +10,10 @@ use Rattle.joining.proofs.workspace.Workspace.unite.Goals as goal
 pub returns : goal.returns
 returns g c =
     let w = c.args.self.now in
-    let put = c.put-state.ensures in
-    let took = c.take-attributes.ensures in
-    let after = c.put-state.new.self in
-    let table = c.take-attributes.new.table in
+    let put = c.put_state.ensures in
+    let took = c.take_attributes.ensures in
+    let after = c.put_state.new.self in
+    let table = c.take_attributes.new.table in
     let class = c.relabel.new.class in
     let long : length class ≡ vec_len w.class = search rules in
     let stands : (r : ℕ) → cond (get_or (vec_items after.void) r false) none (some ((graph table).value r)) ≡ state after r =
@@ -23,10 +23,10 @@ returns g c =
           (sym (ap vec_items put.classes ∙ refilled_items (vec_len w.class) class (drop (length class) (vec_items w.class)) long)) (c.deref-mut.ensures.len ∙ c.requires.enough.classes) c.relabel.ensures;
       meeting = record {
         others = λ r n. stands r ∙ put.others r n;
-        met = states_met (g.K.Kind.meaning c.args.kind.now) (standing c.state-of.result) (standing c.state-of-2.result) (standing c.meet-states-met.result) (state w c.args.to) (state w c.args.from) _
-            c.state-of.ensures c.state-of-2.ensures (sym (stands c.args.to ∙ put.stands)) c.meet-states-met.ensures;
+        met = states_met (g.K.Kind.meaning c.args.kind.now) (standing c.state_of.result) (standing c.state_of-2.result) (standing c.meet_states-met.result) (state w c.args.to) (state w c.args.from) _
+            c.state_of.ensures c.state_of-2.ensures (sym (stands c.args.to ∙ put.stands)) c.meet_states-met.ensures;
       };
-      takes = takes_from (graph w.table).edge (graph after.table).edge (graph table).edge (Waits (waiting c.args.queue.now)) (Waits (waiting c.take-attributes.new.queue)) c.args.to c.args.from put.edges took.takes;
+      takes = takes_from (graph w.table).edge (graph after.table).edge (graph table).edge (Waits (waiting c.args.queue.now)) (Waits (waiting c.take_attributes.new.queue)) c.args.to c.args.from put.edges took.takes;
       same = record {
         used = took.edged.used ∙ put.used;
         vars = took.edged.vars ∙ put.vars;

@@ -3,15 +3,15 @@ use Rattle.kinds.specs.Types.{Filled}
 use Rattle.kinds.proofs.Settling.{filled_settled}
 use Rattle.kinds.proofs.types.Types.fill.Goals as goal
 
-pub invariant-of-self : goal.invariant-of-self
-invariant-of-self c = (∣ c.in-ok-below.ensures.1 ∣₁, tt)
+pub invariant_of-self : goal.invariant_of-self
+invariant_of-self c = (∣ c.in_ok-below.ensures.1 ∣₁, tt)
 
-pub returns-in-err-below : goal.returns-in-err-below
-returns-in-err-below c =
+pub returns-in_err-below : goal.returns-in_err-below
+returns-in_err-below c =
     let n = c.args.count in let links = c.args.links.now in let marks = c.args.leaves in
     let before = c.args.self.now in
-    let f : Filled n links marks before c.from-residual.result before = search rules in
-    record { filled = f; settled = filled_settled n links marks before c.from-residual.result before f }
+    let f : Filled n links marks before c.from_residual.result before = search rules in
+    record { filled = f; settled = filled_settled n links marks before c.from_residual.result before f }
 
 pub returns : goal.returns
 returns c =

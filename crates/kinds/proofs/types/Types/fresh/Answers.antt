@@ -27,8 +27,8 @@ right t (on_top m) = both_ways (has 0 0) (has_none 0) m
 right t (on_none h m) = both_ways (has 0 t) (has_none t) m
 right t (missing {u = u} h m v e) = both_ways (has 0 u) (has_none u) m
 
-pub invariant-of-result : goal.invariant-of-result
-invariant-of-result c = (
+pub invariant_of-result : goal.invariant_of-result
+invariant_of-result c = (
   ∣ sound 1 [] (replicate 64 1) (omega arith) up only all (omega arith) (λ t h k. absurd (omega arith)) 0
       (λ x y h k. absurd (omega arith)) right ∣₁,
   tt,

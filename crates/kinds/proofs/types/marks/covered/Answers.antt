@@ -11,7 +11,7 @@ loop-t-preserved c =
     let below = c.args.below.now in let marks = c.args.marks in let t = c.loop-t.t in
     elim c.if-has_bit.branch [
       | then-has_bit w ↦ subst (λ x. Covering below marks (t + 1) x) (sym w.types-is)
-          (covering_more below marks t c.loop-t.types c.loop-t.invariant (sym w.if-has-bit.ensures))
+          (covering_more below marks t c.loop-t.types c.loop-t.invariant (sym w.if-has_bit.ensures))
       | else-has_bit w ↦ subst (λ x. Covering below marks (t + 1) x) (sym w.types-is)
-          (covering_skip below marks t c.loop-t.types c.loop-t.invariant (sym w.if-has-bit.ensures))
+          (covering_skip below marks t c.loop-t.types c.loop-t.invariant (sym w.if-has_bit.ensures))
     ]

@@ -2,8 +2,8 @@ use Rattle.kinds.specs.Hierarchy.{UnderLowest, Parted}
 use Rattle.kinds.proofs.Grounds.{none_common, rest_answers, by_none}
 use Rattle.kinds.proofs.types.meets.meets.Goals as goal
 
-pub returns-in-default : goal.returns-in-default
-returns-in-default c = none_common c.args.below.now c.args.a c.args.b c.in-default.ensures
+pub returns-in_default : goal.returns-in_default
+returns-in_default c = none_common c.args.below.now c.args.a c.args.b c.in_default.ensures
 
 pub returns : goal.returns
 returns c =

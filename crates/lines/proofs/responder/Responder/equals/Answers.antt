@@ -14,9 +14,9 @@ pub returns : goal.returns
 returns c =
     let s = c.args.self.now in
     let left : List ℕ = c.equals-answer.new.trail in
-    let shown = c.as-slice.ensures.value ∙ with_items_is s.trail left (omega (arith, c.equals-answer.auto.trail, c.as-mut-slice.ensures.len)) in
+    let shown = c.as_slice.ensures.value ∙ with_items_is s.trail left (omega (arith, c.equals-answer.auto.trail, c.as_mut_slice.ensures.len)) in
     let said : terms.Statement = terms.equals (parts.term_of c.term.result) (parts.term_of c.term-2.result) in
     let same = ap₂ terms.equals c.term.ensures c.term-2.ensures in
-    called s _ (written.equals (term_of c.args.p.now) (term_of c.args.q.now)) (answers.state said c.as-mut-slice.result.now) (answers.states c.equals-answer.result left) (answers.states c.equals-answer.result c.as-slice.result.now)
-    c.args.out.now c.print-statement.new.out c.print-statement.result
-    (ap₂ answers.state same c.as-mut-slice.ensures.value) (ap (answers.states c.equals-answer.result) shown) c.equals-answer.ensures.step c.print-statement.ensures
+    called s _ (written.equals (term_of c.args.p.now) (term_of c.args.q.now)) (answers.state said c.as_mut_slice.result.now) (answers.states c.equals-answer.result left) (answers.states c.equals-answer.result c.as_slice.result.now)
+    c.args.out.now c.print_statement.new.out c.print_statement.result
+    (ap₂ answers.state same c.as_mut_slice.ensures.value) (ap (answers.states c.equals-answer.result) shown) c.equals-answer.ensures.step c.print_statement.ensures

@@ -14,9 +14,9 @@ pub returns : goal.returns
 returns c =
     let s = c.args.self.now in
     let left : List ℕ = c.is-answer.new.trail in
-    let shown = c.as-slice.ensures.value ∙ with_items_is s.trail left (omega (arith, c.is-answer.auto.trail, c.as-mut-slice.ensures.len)) in
+    let shown = c.as_slice.ensures.value ∙ with_items_is s.trail left (omega (arith, c.is-answer.auto.trail, c.as_mut_slice.ensures.len)) in
     let said : terms.Statement = terms.is (parts.term_of c.term.result) c.args.value in
     let same = ap (λ (p : terms.Term). terms.is p c.args.value) c.term.ensures in
-    called s _ (written.is (term_of c.args.p.now) c.args.value) (answers.state said c.as-mut-slice.result.now) (answers.states c.is-answer.result left) (answers.states c.is-answer.result c.as-slice.result.now)
-    c.args.out.now c.print-statement.new.out c.print-statement.result
-    (ap₂ answers.state same c.as-mut-slice.ensures.value) (ap (answers.states c.is-answer.result) shown) c.is-answer.ensures.step c.print-statement.ensures
+    called s _ (written.is (term_of c.args.p.now) c.args.value) (answers.state said c.as_mut_slice.result.now) (answers.states c.is-answer.result left) (answers.states c.is-answer.result c.as_slice.result.now)
+    c.args.out.now c.print_statement.new.out c.print_statement.result
+    (ap₂ answers.state same c.as_mut_slice.ensures.value) (ap (answers.states c.is-answer.result) shown) c.is-answer.ensures.step c.print_statement.ensures

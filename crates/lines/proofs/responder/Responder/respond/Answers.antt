@@ -23,10 +23,10 @@ returns-in-Ok c =
 pub returns-in-Err : goal.returns-in-Err
 returns-in-Err c =
     let why = c.in-Err.why in
-    let bytes = c.print-malformed.ensures.bytes in
+    let bytes = c.print_malformed.ensures.bytes in
     record {
       responds =
           unread why (omega (arith, c.if-out-lt-ROOM.false)) c.in-Err.ensures refl
-          (record { bytes = bytes; why = ap (λ (g : Ground). some g) c.print-malformed.ensures.ground });
-      within = fits (malformed_text why) c.args.out.now c.print-malformed.new.out c.print-malformed.result.printed bytes;
+          (record { bytes = bytes; why = ap (λ (g : Ground). some g) c.print_malformed.ensures.ground });
+      within = fits (malformed_text why) c.args.out.now c.print_malformed.new.out c.print_malformed.result.printed bytes;
     }

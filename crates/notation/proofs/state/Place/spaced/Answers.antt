@@ -35,7 +35,7 @@ pub returns-in-Right : goal.returns-in-Right
 returns-in-Right c =
     stepped (within c.args.self c.args.stem c.args.number) Class.Space space refl c.requires.ranged None (sym (λ i. step (within (c.in-Right.is i) c.args.stem (c.in-Some.is i)) Class.Space))
 
-pub returns-in-default : goal.returns-in-default
-returns-in-default c =
+pub returns-in_default : goal.returns-in_default
+returns-in_default c =
     let none : c.args.number ≡ None = search rules in
     stepped (within c.args.self c.args.stem c.args.number) Class.Space space refl c.requires.ranged None (sym (λ i. step (within c.args.self c.args.stem (none i)) Class.Space))

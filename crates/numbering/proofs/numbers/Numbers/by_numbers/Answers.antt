@@ -24,7 +24,7 @@ loop-attribute-preserved c =
     let number = number_read n target c.index-number.result.now c.requires.room (c.requires.inside a target on) c.index-number.ensures in (
       a + 1,
       moved_one (num n) c.args.node.now c.loop-attribute.moved c.loop-attribute.left inv.0 inv.1 a c.in-Some.ensures
-          c.lead.new.self c.without-lowest-left.result c.without-lowest-left.ensures c.lead.ensures.value (c.lead.ensures.leads ∙ ap some (sym number)) c.lead.ensures.others,
+          c.lead.new.self c.without_lowest-left.result c.without_lowest-left.ensures c.lead.ensures.value (c.lead.ensures.leads ∙ ap some (sym number)) c.lead.ensures.others,
     )
 
 pub returns : goal.returns
@@ -32,5 +32,5 @@ returns c =
     let inv = c.loop-attribute.invariant in
     record {
       value = inv.1.value;
-      edges = moved_all (num c.args.self.now) c.args.node.now c.loop-attribute.moved c.loop-attribute.left inv.0 inv.1 c.in-default.ensures;
+      edges = moved_all (num c.args.self.now) c.args.node.now c.loop-attribute.moved c.loop-attribute.left inv.0 inv.1 c.in_default.ensures;
     }

@@ -44,4 +44,4 @@ pub returns : goal.returns
 returns c =
     let g = graph c.args.table.now in
     let v = c.loop-row.invariant.0 in
-    drained g v c.loop-row.self (subst (λ (z : List ℕ). Underway g (by_attribute v 0) v c.loop-row.self z) c.in-default.ensures.first.0 c.loop-row.invariant.1)
+    drained g v c.loop-row.self (subst (λ (z : List ℕ). Underway g (by_attribute v 0) v c.loop-row.self z) c.in_default.ensures.first.0 c.loop-row.invariant.1)

@@ -33,8 +33,8 @@ loop-x-smaller c =
     let e = giver_is n c.loop-x.at c.index.result.now i a c.requires.numbered.1.room c.loop-x.invariant.0 c.index.ensures c.in-Attribute.is in
     giver_before n c.requires.numbered.0 c.requires.numbered.1 c.loop-x.at i a c.loop-x.invariant.0 e
 
-pub overflow-add-length : goal.overflow-add-length
-overflow-add-length c = record { fits = omega (arith, c.loop-x.invariant.1, c.requires.inside, c.requires.numbered.1.room.count) }
+pub overflow_add-length : goal.overflow_add-length
+overflow_add-length c = record { fits = omega (arith, c.loop-x.invariant.1, c.requires.inside, c.requires.numbered.1.room.count) }
 
 pub returns-in-Variable : goal.returns-in-Variable
 returns-in-Variable c =

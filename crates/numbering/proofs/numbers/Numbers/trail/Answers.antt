@@ -4,8 +4,8 @@ use Rattle.numbering.specs.Frontier.{in_numbers}
 use Rattle.numbering.proofs.Tracing.{traced, traced_trail}
 use Rattle.numbering.proofs.numbers.Numbers.trail.Goals as goal
 
-pub write-back-requires : goal.write-back-requires
-write-back-requires c = record {
+pub write_back-requires : goal.write_back-requires
+write_back-requires c = record {
   numbered = c.requires.numbered;
   inside = c.requires.inside;
   traced = λ t r. (c.source-variable.ensures.traced t r).1;
@@ -22,5 +22,5 @@ returns c g of =
       path = t.0.path;
       trail = subst (λ (z : ℕ). Trail (in_numbers g n) c.args.k (record { var = z; path = t.0.path })) (sym s.0) (traced_trail n g of c.requires.inside t.1);
       attributes = s.1;
-      written = c.write-back.ensures t.0 t.1;
+      written = c.write_back.ensures t.0 t.1;
     }

@@ -41,7 +41,7 @@ loop-attribute-preserved c =
           c.mention.new.self (waiting c.mention.new.queue) c.mention.ensures.known c.mention.ensures.fresh,
       row_stays c.args.table.now c.requires.sound c.args.row c.requires.inside c.index.result.now c.index.ensures c.loop-attribute.self i inv.2 (waiting c.loop-attribute.queue) c.loop-attribute.left inv.0 inv.3 inv.1 c.in-Some.attribute c.in-Some.ensures
           c.mention.new.self (waiting c.mention.new.queue) c.mention.ensures.known c.mention.ensures.fresh,
-      one_less c.index.result.now.present c.loop-attribute.left inv.0 c.in-Some.attribute inv.3 c.in-Some.ensures c.without-lowest-left.result c.without-lowest-left.ensures,
+      one_less c.index.result.now.present c.loop-attribute.left inv.0 c.in-Some.attribute inv.3 c.in-Some.ensures c.without_lowest-left.result c.without_lowest-left.ensures,
       c.mention.ensures.capacity ∙ inv.4,
     )
 
@@ -51,7 +51,7 @@ returns c =
     let inv = c.loop-attribute.invariant in
     let i = c.index-giver.result.now in
     let e = number_read n c.args.row i c.requires.start.room (omega (arith, c.requires.inside, c.requires.sound.used)) c.index-giver.ensures in
-    let done = visit_done c.args.table.now c.requires.sound c.args.row c.requires.inside c.index.result.now c.index.ensures c.loop-attribute.self i inv.2 (waiting c.loop-attribute.queue) c.loop-attribute.left inv.0 inv.3 inv.1 c.in-default.ensures in
+    let done = visit_done c.args.table.now c.requires.sound c.args.row c.requires.inside c.index.result.now c.index.ensures c.loop-attribute.self i inv.2 (waiting c.loop-attribute.queue) c.loop-attribute.left inv.0 inv.3 inv.1 c.in_default.ensures in
     record {
       numbered = subst (λ (z : ℕ). Underway (graph c.args.table.now) (by_attribute (z + 1) 0) (z + 1) c.loop-attribute.self (waiting c.loop-attribute.queue)) (sym e) done;
       capacity = inv.4;

@@ -15,16 +15,16 @@ loop-giver-init c = (
       ),
 )
 
-pub overflow-sub-left : goal.overflow-sub-left
-overflow-sub-left c =
+pub overflow_sub-left : goal.overflow_sub-left
+overflow_sub-left c =
     let n = c.args.self.now in
     let e = giver_is n c.loop-giver.at c.index.result.now c.in-Attribute.giver c.in-Attribute.attribute c.requires.numbered.1.room c.loop-giver.invariant.0 c.index.ensures c.in-Attribute.is in
     let over = left_over n c.requires.numbered.0 c.requires.numbered.1 c.args.k c.loop-giver.at c.loop-giver.left c.args.length c.in-Attribute.giver c.in-Attribute.attribute c.requires.inside c.requires.traced
     (λ t r. let p = c.loop-giver.invariant.1 t r in (p.0, p.1, p.2)) e in
     omega (arith, over.0)
 
-pub offset-bounds-out-left : goal.offset-bounds-out-left
-offset-bounds-out-left c =
+pub offset_bounds-out-left : goal.offset_bounds-out-left
+offset_bounds-out-left c =
     let n = c.args.self.now in
     let e = giver_is n c.loop-giver.at c.index.result.now c.in-Attribute.giver c.in-Attribute.attribute c.requires.numbered.1.room c.loop-giver.invariant.0 c.index.ensures c.in-Attribute.is in
     let over = left_over n c.requires.numbered.0 c.requires.numbered.1 c.args.k c.loop-giver.at c.loop-giver.left c.args.length c.in-Attribute.giver c.in-Attribute.attribute c.requires.inside c.requires.traced
@@ -70,8 +70,8 @@ pub returns : goal.returns
 returns c t r =
     let n = c.args.self.now in
     let p = c.loop-giver.invariant.1 t r in
-    let e = given_is n c.loop-giver.at c.index.result.now c.requires.numbered.1.room c.loop-giver.invariant.0 c.index.ensures ∙ ap meaning c.in-default.is in
-    let q = passed_all n t c.loop-giver.at p.0 p.1 c.in-default.field-0 e in
+    let e = given_is n c.loop-giver.at c.index.result.now c.requires.numbered.1.room c.loop-giver.invariant.0 c.index.ensures ∙ ap meaning c.in_default.is in
+    let q = passed_all n t c.loop-giver.at p.0 p.1 c.in_default.field-0 e in
     let none : c.loop-giver.left ≡ 0 = omega (arith, p.2, ap length q.1) in
     let tail = drop (length t.path) c.args.out.now in
     p.3 ∙ ap (λ (z : ℕ). take z c.args.out.now ++ (p.0 ++ tail)) none ∙ ap (λ (z : List ℕ). z ++ tail) q.1

@@ -1,4 +1,4 @@
 use Rattle.sentences.proofs.matrix.Matrix.+write_mention.Given as goal
 
-abbrev pub decreases-write-mention : goal.decreases-write-mention
-decreases-write-mention g l = l.depth
+abbrev pub decreases-write_mention : goal.decreases-write_mention
+decreases-write_mention g l = l.depth

@@ -14,17 +14,17 @@ pub returns-then-self-ge-NODES : goal.returns-then-self-ge-NODES
 returns-then-self-ge-NODES g c =
     record { step = no_node_left graph kept (g.K.Kind.meaning c.args.self.now.kind) (g.met.K.Kind.lawful c.args.self.now.kind) c.args.self.now c.if-self-ge-VARIABLES.false c.if-self-ge-NODES.true; kind = refl }
 
-pub add-variable-requires : goal.add-variable-requires
-add-variable-requires g c = record { sound = sound_known c.args.self.now.sound; row-left = omega (arith, c.if-self-ge-NODES.false); root-left = c.if-self-ge-VARIABLES.false }
+pub add_variable-requires : goal.add_variable-requires
+add_variable-requires g c = record { sound = sound_known c.args.self.now.sound; row-left = omega (arith, c.if-self-ge-NODES.false); root-left = c.if-self-ge-VARIABLES.false }
 
-pub invariant-of-self : goal.invariant-of-self
-invariant-of-self g c =
+pub invariant_of-self : goal.invariant_of-self
+invariant_of-self g c =
     let s = c.args.self.now in
-    (∣ c.add-variable.ensures.sound ∣₁, (omega (arith, c.add-variable.ensures.new.nodes, c.if-self-ge-NODES.false), (s.few, (s.room, tt))))
+    (∣ c.add_variable.ensures.sound ∣₁, (omega (arith, c.add_variable.ensures.new.nodes, c.if-self-ge-NODES.false), (s.few, (s.room, tt))))
 
 pub returns : goal.returns
 returns g c =
-    let t = c.add-variable.new.self in
+    let t = c.add_variable.new.self in
     let before = c.args.self.now.table in
-    let new = subst (λ (v : ℕ). NewVariable v (tables.graph before) (tables.values before) (tables.graph t) (tables.values t)) c.top-top.ensures c.add-variable.ensures.new in
-    record { step = rw c.add-variable.ensures.variable (variable_declared graph kept (g.K.Kind.meaning c.args.self.now.kind) (g.met.K.Kind.lawful c.args.self.now.kind) c.args.self.now c.if-self-ge-VARIABLES.false _ c.if-self-ge-NODES.false new refl); kind = refl }
+    let new = subst (λ (v : ℕ). NewVariable v (tables.graph before) (tables.values before) (tables.graph t) (tables.values t)) c.top-top.ensures c.add_variable.ensures.new in
+    record { step = rw c.add_variable.ensures.variable (variable_declared graph kept (g.K.Kind.meaning c.args.self.now.kind) (g.met.K.Kind.lawful c.args.self.now.kind) c.args.self.now c.if-self-ge-VARIABLES.false _ c.if-self-ge-NODES.false new refl); kind = refl }

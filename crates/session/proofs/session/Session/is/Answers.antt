@@ -15,29 +15,29 @@ use Rattle.session.proofs.Judgement.{next_holds}
 use Rattle.session.proofs.Statements.{value_terms, no_value_there, value_there, short_trail, long_trail, refused_leaving, ready_after, right_after, accepted_leaving}
 use Rattle.session.proofs.session.Session.is.Goals as goal
 
-pub returns-in-err-check : goal.returns-in-err-check
-returns-in-err-check g c =
+pub returns-in_err-check : goal.returns-in_err-check
+returns-in_err-check g c =
     let s = c.args.self.now in
     let m = g.K.Kind.meaning s.kind in
     let p = term_of c.args.p in
     let room : ℕ = length c.args.trail.now in
-    let r = c.in-err-check.field-0.0 in
-    let e = err_from_is_err_and c.from-residual.result c.from-residual.ensures.1 in
+    let r = c.in_err-check.field-0.0 in
+    let e = err_from_is_err_and c.from_residual.result c.from_residual.ensures.1 in
     record {
       step = rw (e.1, e.2) (refused_leaving graph kept m (g.met.K.Kind.lawful s.kind) s s refl refl (is p c.args.value) c.args.trail.now c.args.trail.now r
-          (λ vars said has. Stated.faulty (value_terms m vars said room p c.args.value (some r) (subst (λ (n : ℕ). term-fault n 0 p ≡ some r) has.holds.all c.in-err-check.ensures))));
+          (λ vars said has. Stated.faulty (value_terms m vars said room p c.args.value (some r) (subst (λ (n : ℕ). term-fault n 0 p ≡ some r) has.holds.all c.in_err-check.ensures))));
       kind = refl;
     }
 
-pub returns-then-not-is-value : goal.returns-then-not-is-value
-returns-then-not-is-value g c =
+pub returns-then-not-is_value : goal.returns-then-not-is_value
+returns-then-not-is_value g c =
     let s = c.args.self.now in
     let m = g.K.Kind.meaning s.kind in
     let p = term_of c.args.p in
     let room : ℕ = length c.args.trail.now in
     record {
       step = refused_leaving graph kept m (g.met.K.Kind.lawful s.kind) s s refl refl (is p c.args.value) c.args.trail.now c.args.trail.now NoSuchValue
-          (λ vars said has. Stated.faulty (no_value_there m vars said room p c.args.value (subst (λ (n : ℕ). term-fault n 0 p ≡ none) has.holds.all c.in-ok-check.ensures) (sym c.is-value.ensures ∙ c.if-not-is-value.true)));
+          (λ vars said has. Stated.faulty (no_value_there m vars said room p c.args.value (subst (λ (n : ℕ). term-fault n 0 p ≡ none) has.holds.all c.in_ok-check.ensures) (sym c.is_value.ensures ∙ c.if-not-is_value.true)));
       kind = refl;
     }
 
@@ -49,32 +49,32 @@ returns-then-trail-lt-CAPACITY g c =
     let room : ℕ = length c.args.trail.now in
     record {
       step = refused_leaving graph kept m (g.met.K.Kind.lawful s.kind) s s refl refl (is p c.args.value) c.args.trail.now c.args.trail.now ShortTrail
-          (λ vars said has. Stated.faulty (value_there m vars said room p c.args.value (some ShortTrail) (subst (λ (n : ℕ). term-fault n 0 p ≡ none) has.holds.all c.in-ok-check.ensures) (sym c.is-value.ensures ∙ c.if-not-is-value.false) (short_trail m vars said room c.if-trail-lt-CAPACITY.true)));
+          (λ vars said has. Stated.faulty (value_there m vars said room p c.args.value (some ShortTrail) (subst (λ (n : ℕ). term-fault n 0 p ≡ none) has.holds.all c.in_ok-check.ensures) (sym c.is_value.ensures ∙ c.if-not-is_value.false) (short_trail m vars said room c.if-trail-lt-CAPACITY.true)));
       kind = refl;
     }
 
-pub close-value-requires : goal.close-value-requires
-close-value-requires g c =
+pub close_value-requires : goal.close_value-requires
+close_value-requires g c =
     let s = c.args.self.now in
-    record { sound = sound_known s.sound; few = s.nodes; left = faultless_sound s.table.vars 0 (term_of c.args.p) c.in-ok-check.ensures }
+    record { sound = sound_known s.sound; few = s.nodes; left = faultless_sound s.table.vars 0 (term_of c.args.p) c.in_ok-check.ensures }
 
-pub returns-in-err-judge : goal.returns-in-err-judge
-returns-in-err-judge g c =
+pub returns-in_err-judge : goal.returns-in_err-judge
+returns-in_err-judge g c =
     let s = c.args.self.now in
     let m = g.K.Kind.meaning s.kind in
     let lawful = g.met.K.Kind.lawful s.kind in
     let p = term_of c.args.p in
     let st = is p c.args.value in
     let before = c.args.trail.now in
-    let term = c.in-ok-check.ensures in
-    let value = sym c.is-value.ensures ∙ c.if-not-is-value.false in
-    let closes = c.close-value.ensures in
-    let e = err_from_is_err_and c.from-residual-in-err-judge.result c.from-residual-in-err-judge.ensures.1 in
+    let term = c.in_ok-check.ensures in
+    let value = sym c.is_value.ensures ∙ c.if-not-is_value.false in
+    let closes = c.close_value.ensures in
+    let e = err_from_is_err_and c.from_residual-in_err-judge.result c.from_residual-in_err-judge.ensures.1 in
     record {
-      step = rw (e.1, e.2) (refused_leaving graph kept m lawful s _ refl refl st before c.judge.new.trail c.in-err-judge.field-0.0
-          (right_after graph kept m lawful s s st c.close-value.new.self closes.arranged before refl (faultless_sound s.table.vars 0 p term, value)
+      step = rw (e.1, e.2) (refused_leaving graph kept m lawful s _ refl refl st before c.judge.new.trail c.in_err-judge.field-0.0
+          (right_after graph kept m lawful s s st c.close_value.new.self closes.arranged before refl (faultless_sound s.table.vars 0 p term, value)
           (λ said. value_there m s.table.vars said (length before) p c.args.value none term value (long_trail m s.table.vars said (length before) c.if-trail-lt-CAPACITY.false))
-          closes.stands (Err c.in-err-judge.field-0.0) c.judge.new.trail c.in-err-judge.ensures.closed));
+          closes.stands (Err c.in_err-judge.field-0.0) c.judge.new.trail c.in_err-judge.ensures.closed));
       kind = refl;
     }
 
@@ -86,17 +86,17 @@ returns g c =
     let p = term_of c.args.p in
     let st : Statement = is p c.args.value in
     let before = c.args.trail.now in
-    let term = c.in-ok-check.ensures in
-    let value = sym c.is-value.ensures ∙ c.if-not-is-value.false in
-    let closes = c.close-value.ensures in
+    let term = c.in_ok-check.ensures in
+    let value = sym c.is_value.ensures ∙ c.if-not-is_value.false in
+    let closes = c.close_value.ensures in
     let free : (said : List Statement) → fault m s.table.vars said st (length before) ≡ none =
     λ said. value_there m s.table.vars said (length before) p c.args.value none term value (long_trail m s.table.vars said (length before) c.if-trail-lt-CAPACITY.false) in
     record {
       step = accepted_leaving graph kept m lawful s _ st before c.judge.new.trail
-          (right_after graph kept m lawful s s st c.close-value.new.self closes.arranged before refl (faultless_sound s.table.vars 0 p term, value) free closes.stands (Ok tt) c.judge.new.trail c.in-ok-judge.ensures.closed)
+          (right_after graph kept m lawful s s st c.close_value.new.self closes.arranged before refl (faultless_sound s.table.vars 0 p term, value) free closes.stands (Ok tt) c.judge.new.trail c.in_ok-judge.ensures.closed)
           (λ vars said has.
           subst (λ (u : Table). Holds m (tables.graph u) (kept s) vars (said ++ (st ∷ []))) (sym c.swap.ensures.x-after)
-          (next_holds m lawful c.close-value.new.self closes.arranged (kept s) vars (said ++ (st ∷ []))
-          (ready_after graph kept m lawful s s st c.close-value.new.self closes.arranged before refl (faultless_sound s.table.vars 0 p term, value) free closes.stands vars said has) before c.in-ok-judge.ensures.fits.1));
+          (next_holds m lawful c.close_value.new.self closes.arranged (kept s) vars (said ++ (st ∷ []))
+          (ready_after graph kept m lawful s s st c.close_value.new.self closes.arranged before refl (faultless_sound s.table.vars 0 p term, value) free closes.stands vars said has) before c.in_ok-judge.ensures.fits.1));
       kind = refl;
     }

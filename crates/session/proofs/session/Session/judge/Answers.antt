@@ -16,27 +16,27 @@ returns-in-Some g c =
       fits = tt;
     }
 
-pub returns-in-Some-first-leaf : goal.returns-in-Some-first-leaf
-returns-in-Some-first-leaf g c =
+pub returns-in-Some-first_leaf : goal.returns-in-Some-first_leaf
+returns-in-Some-first_leaf g c =
     let s = c.args.self.now in
-    let found = c.in-Some-first-leaf.ensures in
+    let found = c.in-Some-first_leaf.ensures in
     record {
       closed = λ vars said ready.
-          leaf_clash (g.K.Kind.meaning s.kind) (g.met.K.Kind.lawful s.kind) s.closer c.requires.arranged (kept s) vars said ready c.args.trail.now c.in-default.ensures c.in-Some-first-leaf.k found.1 found.2 _ _ _
-          (c.trail-variable-in-Some-first-leaf.ensures (tables.graph s.closer.work.table) c.requires.arranged.numbered);
+          leaf_clash (g.K.Kind.meaning s.kind) (g.met.K.Kind.lawful s.kind) s.closer c.requires.arranged (kept s) vars said ready c.args.trail.now c.in_default.ensures c.in-Some-first_leaf.k found.1 found.2 _ _ _
+          (c.trail-variable-in-Some-first_leaf.ensures (tables.graph s.closer.work.table) c.requires.arranged.numbered);
       fits = tt;
     }
 
-pub first-broken-requires : goal.first-broken-requires
-first-broken-requires g c = sound_known c.args.self.now.closer.sound
+pub first_broken-requires : goal.first_broken-requires
+first_broken-requires g c = sound_known c.args.self.now.closer.sound
 
-pub returns-in-Some-first-broken : goal.returns-in-Some-first-broken
-returns-in-Some-first-broken g c =
+pub returns-in-Some-first_broken : goal.returns-in-Some-first_broken
+returns-in-Some-first_broken g c =
     let s = c.args.self.now in
-    let found = c.in-Some-first-broken.ensures in
+    let found = c.in-Some-first_broken.ensures in
     record {
       closed = λ vars said ready.
-          apart_clash (g.K.Kind.meaning s.kind) (g.met.K.Kind.lawful s.kind) s.closer c.requires.arranged (kept s) vars said ready c.args.trail.now c.in-default.ensures c.in-default-first-leaf.ensures c.in-Some-first-broken.place found.0 found.1;
+          apart_clash (g.K.Kind.meaning s.kind) (g.met.K.Kind.lawful s.kind) s.closer c.requires.arranged (kept s) vars said ready c.args.trail.now c.in_default.ensures c.in_default-first_leaf.ensures c.in-Some-first_broken.place found.0 found.1;
       fits = tt;
     }
 
@@ -45,7 +45,7 @@ returns-then-self-gt-NODES g c =
     let s = c.args.self.now in
     record {
       closed = λ vars said ready.
-          nodes_full (g.K.Kind.meaning s.kind) (g.met.K.Kind.lawful s.kind) s.closer c.requires.arranged (kept s) vars said ready c.args.trail.now c.in-default.ensures c.in-default-first-leaf.ensures c.in-default-first-broken.ensures
+          nodes_full (g.K.Kind.meaning s.kind) (g.met.K.Kind.lawful s.kind) s.closer c.requires.arranged (kept s) vars said ready c.args.trail.now c.in_default.ensures c.in_default-first_leaf.ensures c.in_default-first_broken.ensures
           (omega (arith, c.requires.arranged.same.nodes, c.if-self-gt-NODES.true));
       fits = tt;
     }
@@ -55,7 +55,7 @@ returns g c =
     let s = c.args.self.now in
     record {
       closed = λ vars said ready.
-          taken (g.K.Kind.meaning s.kind) (g.met.K.Kind.lawful s.kind) s.closer c.requires.arranged (kept s) vars said ready c.args.trail.now c.in-default.ensures c.in-default-first-leaf.ensures c.in-default-first-broken.ensures
+          taken (g.K.Kind.meaning s.kind) (g.met.K.Kind.lawful s.kind) s.closer c.requires.arranged (kept s) vars said ready c.args.trail.now c.in_default.ensures c.in_default-first_leaf.ensures c.in_default-first_broken.ensures
           (omega (arith, c.requires.arranged.same.nodes, c.if-self-gt-NODES.false));
-      fits = (c.if-self-gt-NODES.false, c.in-default.ensures);
+      fits = (c.if-self-gt-NODES.false, c.in_default.ensures);
     }

@@ -7,16 +7,16 @@ use Rattle.session.specs.Sessions.{graph, kept}
 use Rattle.session.proofs.Statements.{empty_held}
 use Rattle.session.proofs.session.Session.open.Goals as goal
 
-pub invariant-of-result : goal.invariant-of-result
-invariant-of-result g c =
-    let t = c.in-ok-table.ensures in
-    let a = c.in-ok-aparts.ensures in
+pub invariant_of-result : goal.invariant_of-result
+invariant_of-result g c =
+    let t = c.in_ok-table.ensures in
+    let a = c.in_ok-aparts.ensures in
     (∣ t.0 ∣₁, (omega (arith, t.1), (omega (arith, a.len), (a.capacity, tt))))
 
 pub returns : goal.returns
 returns g c =
     let m = g.K.Kind.meaning c.args.kind in
-    let t = c.in-ok-table.ensures in
-    let a = c.in-ok-aparts.ensures in
-    let holds = empty_held m (tables.graph c.in-ok-table.table) _ t.1 t.2 (ap (map kept_apart) a.items) in
+    let t = c.in_ok-table.ensures in
+    let a = c.in_ok-aparts.ensures in
+    let holds = empty_held m (tables.graph c.in_ok-table.table) _ t.1 t.2 (ap (map kept_apart) a.items) in
     (promise graph kept m (g.met.K.Kind.lawful c.args.kind) _ (fresh graph kept m _ holds), refl)

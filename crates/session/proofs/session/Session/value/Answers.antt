@@ -8,13 +8,13 @@ use Rattle.session.specs.Sessions.{graph, kept}
 use Rattle.session.proofs.Questions.{value_refused, value_found, value_absent}
 use Rattle.session.proofs.session.Session.value.Goals as goal
 
-pub returns-in-err-check : goal.returns-in-err-check
-returns-in-err-check g c =
-    let p = err_from_is_err_and c.from-residual.result c.from-residual.ensures.1 in
-    rw (p.1, p.2) (value_refused graph kept (g.K.Kind.meaning c.args.self.now.kind) c.args.self.now (term_of c.args.p) _ c.in-err-check.ensures)
+pub returns-in_err-check : goal.returns-in_err-check
+returns-in_err-check g c =
+    let p = err_from_is_err_and c.from_residual.result c.from_residual.ensures.1 in
+    rw (p.1, p.2) (value_refused graph kept (g.K.Kind.meaning c.args.self.now.kind) c.args.self.now (term_of c.args.p) _ c.in_err-check.ensures)
 
-pub node-of-requires : goal.node-of-requires
-node-of-requires g c = sound_known c.args.self.now.sound
+pub node_of-requires : goal.node_of-requires
+node_of-requires g c = sound_known c.args.self.now.sound
 
 pub index-requires : goal.index-requires
 index-requires g c =
@@ -26,7 +26,7 @@ returns-in-Some g c =
     let s = c.args.self.now in
     let d = c.in-Some.ensures in
     let read = read_row s.table (sound_known s.sound) c.in-Some.n d.1 c.index.result.now c.index.ensures in
-    rw (ap (λ (r : Node). r.value) read) (value_found graph kept (g.K.Kind.meaning s.kind) s (term_of c.args.p) c.in-ok-check.ensures c.in-Some.n d.0)
+    rw (ap (λ (r : Node). r.value) read) (value_found graph kept (g.K.Kind.meaning s.kind) s (term_of c.args.p) c.in_ok-check.ensures c.in-Some.n d.0)
 
 pub returns-in-None : goal.returns-in-None
-returns-in-None g c = value_absent graph kept (g.K.Kind.meaning c.args.self.now.kind) c.args.self.now (term_of c.args.p) c.in-ok-check.ensures c.in-None.ensures
+returns-in-None g c = value_absent graph kept (g.K.Kind.meaning c.args.self.now.kind) c.args.self.now (term_of c.args.p) c.in_ok-check.ensures c.in-None.ensures

@@ -7,15 +7,15 @@ use Rattle.tables.proofs.Extended.{read_row}
 use Rattle.tables.proofs.Walking.{leads_more, leads_rest, leads_nowhere}
 use Rattle.tables.proofs.table.Table.find.Goals as goal
 
-pub returns-in-err-node : goal.returns-in-err-node
-returns-in-err-node c =
+pub returns-in_err-node : goal.returns-in_err-node
+returns-in_err-node c =
     let g = graph c.args.self.now in
     let path = c.args.path.now in
     let i = c.loop-attribute.attribute-index in
     let node = c.loop-attribute.node in
     let read = read_row c.args.self.now c.requires.sound node c.loop-attribute.invariant.0 c.index.result.now c.index.ensures in
-    let lacks = sym (ap (λ (r : Node). edge_of r (get_or path i 0)) read) ∙ c.in-err-node.ensures in
-    rw c.from-residual.ensures (λ n w. leads_nowhere g path i node c.loop-attribute-test.true lacks n (c.loop-attribute.invariant.2 n w))
+    let lacks = sym (ap (λ (r : Node). edge_of r (get_or path i 0)) read) ∙ c.in_err-node.ensures in
+    rw c.from_residual.ensures (λ n w. leads_nowhere g path i node c.loop-attribute-test.true lacks n (c.loop-attribute.invariant.2 n w))
 
 pub loop-attribute-preserved : goal.loop-attribute-preserved
 loop-attribute-preserved c =
@@ -23,10 +23,10 @@ loop-attribute-preserved c =
     let path = c.args.path.now in
     let i = c.loop-attribute.attribute-index in
     let node = c.loop-attribute.node in
-    let next = c.in-ok-node.node in
+    let next = c.in_ok-node.node in
     let l = c.loop-attribute-test.true in
     let read = read_row c.args.self.now c.requires.sound node c.loop-attribute.invariant.0 c.index.result.now c.index.ensures in
-    let leads = sym (ap (λ (r : Node). edge_of r (get_or path i 0)) read) ∙ c.in-ok-node.ensures in (
+    let leads = sym (ap (λ (r : Node). edge_of r (get_or path i 0)) read) ∙ c.in_ok-node.ensures in (
       c.requires.sound.edges_inside node (get_or path i 0) next c.loop-attribute.invariant.0 leads,
       λ n w. c.loop-attribute.invariant.1 n (leads_more g path i node l next leads n w),
       λ n w. leads_rest g path i node l next leads n (c.loop-attribute.invariant.2 n w),

@@ -5,20 +5,20 @@ use Rattle.tables.specs.Views.{graph, values}
 use Rattle.tables.proofs.Walking.{grown_more, small_here, small_rest}
 use Rattle.tables.proofs.table.Table.grow.Goals as goal
 
-pub step-or-add-node-requires : goal.step-or-add-node-requires
-step-or-add-node-requires c =
+pub step_or_add-node-requires : goal.step_or_add-node-requires
+step_or_add-node-requires c =
     let inv = c.loop-attribute.invariant in
     record {
       sound = inv.5;
       inside = inv.0;
-      row-left = omega (arith, inv.2);
+      row_left = omega (arith, inv.2);
       small = small_here c.args.path.now c.loop-attribute.attribute-index c.loop-attribute-test.true inv.6;
     }
 
 pub loop-attribute-preserved : goal.loop-attribute-preserved
 loop-attribute-preserved c =
     let inv = c.loop-attribute.invariant in
-    let s = c.step-or-add-node.ensures in
+    let s = c.step_or_add-node.ensures in
     let path = c.args.path.now in
     let i = c.loop-attribute.attribute-index in
     let l = c.loop-attribute-test.true in (
@@ -29,7 +29,7 @@ loop-attribute-preserved c =
       s.roots ∙ inv.4,
       s.sound,
       small_rest path i l inv.6,
-      λ h state e w. inv.7 h state e (grown_more c.args.top c.loop-attribute.self c.step-or-add-node.new.self c.loop-attribute.node c.step-or-add-node.result path i l s h state e w),
+      λ h state e w. inv.7 h state e (grown_more c.args.top c.loop-attribute.self c.step_or_add-node.new.self c.loop-attribute.node c.step_or_add-node.result path i l s h state e w),
     )
 
 pub returns : goal.returns

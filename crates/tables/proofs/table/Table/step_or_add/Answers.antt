@@ -30,7 +30,7 @@ returns c =
     let rows = set (vec_items t.rows) t.used c.bare.result in
     let within : c.args.from < length rows = simp length-set (omega arith) in
     let same = c.row.ensures.read ∙ get_or_default rows c.args.from blank c.row.result.now within in
-    let lacked = sym (ap (λ (r : Node). edge_of r c.args.attribute) read) ∙ c.in-default.ensures in
-    added c.args.self.now c.requires.sound c.bare.result c.requires.row-left c.args.top c.bare.ensures.value c.bare.ensures.bare
+    let lacked = sym (ap (λ (r : Node). edge_of r c.args.attribute) read) ∙ c.in_default.ensures in
+    added c.args.self.now c.requires.sound c.bare.result c.requires.row_left c.args.top c.bare.ensures.value c.bare.ensures.bare
     c.args.from c.args.attribute c.requires.inside c.row.result.now c.lead.new.self lacked same
     c.lead.ensures.value c.lead.ensures.leads c.lead.ensures.others
