@@ -23,7 +23,7 @@ loop-pair-init g c =
     let pushed : waiting c.push.new.self ≡ pair ∷ [] =
     c.push.ensures.after ∙ ap (λ (b : Bool). cond b (waiting queue ++ (pair ∷ [])) (waiting queue)) taken ∙ ap (λ (z : List Pair). z ++ (pair ∷ [])) empty in
     midway_begun (g.K.Kind.meaning c.args.kind.now) (g.met.K.Kind.lawful c.args.kind.now) c.args.left c.args.right w
-    (record { rows = c.requires.enough.rows; classes = c.requires.enough.classes; voids = c.requires.enough.voids }) c.requires.sound c.requires.own_val c.requires.left c.requires.right
+    (record { rows = c.requires.enough.rows; classes = c.requires.enough.classes; voids = c.requires.enough.voids }) c.requires.sound c.requires.own c.requires.left c.requires.right
     (waiting c.push.new.self) pushed refl (capacity c.push.new.self) (omega (arith, c.push.ensures.room, c.over-queue.ensures.room, c.requires.buffer))
 
 pub index-to-requires : goal.index-to-requires

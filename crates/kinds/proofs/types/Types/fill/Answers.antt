@@ -4,7 +4,7 @@ use Rattle.kinds.proofs.Settling.{filled_settled}
 use Rattle.kinds.proofs.types.Types.fill.Goals as goal
 
 pub invariant_of-self : goal.invariant_of-self
-invariant_of-self c = (∣ c.in_ok-below.ensures.1 ∣₁, tt)
+invariant_of-self c = record { sound = ∣ c.in_ok-below.ensures.1 ∣₁ }
 
 pub returns-in_err-below : goal.returns-in_err-below
 returns-in_err-below c =

@@ -28,11 +28,10 @@ right t (on_none h m) = both_ways (has 0 t) (has_none t) m
 right t (missing {u = u} h m v e) = both_ways (has 0 u) (has_none u) m
 
 pub invariant_of-result : goal.invariant_of-result
-invariant_of-result c = (
-  ∣ sound 1 [] (replicate 64 1) (omega arith) up only all (omega arith) (λ t h k. absurd (omega arith)) 0
-      (λ x y h k. absurd (omega arith)) right ∣₁,
-  tt,
-)
+invariant_of-result c = record {
+  sound = ∣ sound 1 [] (replicate 64 1) (omega arith) up only all (omega arith) (λ t h k. absurd (omega arith)) 0
+      (λ x y h k. absurd (omega arith)) right ∣₁;
+}
 
 pub returns : goal.returns
 returns c =

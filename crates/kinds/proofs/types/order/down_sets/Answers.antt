@@ -7,7 +7,7 @@ use Rattle.kinds.proofs.types.order.down_sets.Goals as goal
 pub loop-t-init : goal.loop-t-init
 loop-t-init c = (
   λ v t h. subst (λ x. Up c.args.links.now v x) (c.singles-below.ensures.only v t h) stay,
-  c.singles-below.ensures.own_val,
+  c.singles-below.ensures.own,
   λ v x t h u m. let p = upward_link c.requires.upward m in absurd (omega arith),
 )
 
