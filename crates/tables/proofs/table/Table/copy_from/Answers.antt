@@ -18,8 +18,8 @@ returns c =
     let roots_fit : t.vars ≤ vec_len v.roots = omega (arith, s.vars, own.roots) in
     copied t (record { rows = with_items v.rows rows; used = t.used; roots = with_items v.roots roots; vars = t.vars }) s own.rows own.roots refl refl
     (λ n l.
-    overwritten v.rows rows c.deref.result.now (drop t.used c.deref-mut.result.now) t.used c.overwrite_front.ensures enough_rows rows_fit
+    overwritten v.rows rows c.deref.result.now (drop t.used c.deref_mut.result.now) t.used c.overwrite_front.ensures enough_rows rows_fit
     (vec_items t.rows) c.deref.ensures.value n blank l)
     (λ x l.
-    overwritten v.roots roots c.deref-2.result.now (drop t.vars c.deref-mut-2.result.now) t.vars c.overwrite_front-2.ensures enough_roots
+    overwritten v.roots roots c.deref-2.result.now (drop t.vars c.deref_mut-2.result.now) t.vars c.overwrite_front-2.ensures enough_roots
     roots_fit (vec_items t.roots) c.deref-2.ensures.value x 0 l)
