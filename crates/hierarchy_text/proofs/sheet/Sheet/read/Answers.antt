@@ -8,4 +8,4 @@ invariant_of-result c =
     let w = subst (λ n. Written n (vec_items links)) c.as_slice.ensures.len c.in_ok-links.ensures in
     let m = subst (λ es. Marked es (vec_len entries) marks) c.as_slice-2.ensures.value
     (subst (λ n. Marked c.as_slice-2.result.now n marks) c.as_slice-2.ensures.len c.leaf_marks-marks.ensures) in
-    (c.in_ok-entries.ensures, (w.0, (∣ w.1 ∣₁, (∣ m ∣₁, tt))))
+    record { few = c.in_ok-entries.ensures; upward = w.0; linked = ∣ w.1 ∣₁; marked = ∣ m ∣₁ }
