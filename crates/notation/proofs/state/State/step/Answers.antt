@@ -8,31 +8,31 @@ use Rattle.notation.proofs.Machine.{step}
 use Rattle.notation.proofs.Stating.{stepped, grown_checked}
 use Rattle.notation.proofs.state.State.step.Goals as goal
 
-pub returns-in_ok-name : goal.returns-in_ok-name
-returns-in_ok-name c =
+pub returns-in_ok-name-in-Term-Digit : goal.returns-in_ok-name-in-Term-Digit
+returns-in_ok-name-in-Term-Digit c =
     let arm = c.in-Term-Digit in
-    let name = c.in_ok-name.name in
+    let name = c.in_ok-name-in-Term-Digit.name in
     stepped (reading_of c.args.self) (Class.Digit arm.digit) c.args.byte arm.ensures c.requires.ranged (Some (State.Term arm.place arm.stem (Some name)))
-    (ap (option_map (λ n. within arm.place arm.stem (Some n))) (grown_checked 65535 arm.number arm.digit (Some name) c.in_ok-name.ensures) ∙ sym (ap (λ s. step (reading_of s) (Class.Digit arm.digit)) arm.is-0))
+    (ap (option_map (λ n. within arm.place arm.stem (Some n))) (grown_checked 65535 arm.number arm.digit (Some name) c.in_ok-name-in-Term-Digit.ensures) ∙ sym (ap (λ s. step (reading_of s) (Class.Digit arm.digit)) arm.is-0))
 
-pub returns-in_err-name : goal.returns-in_err-name
-returns-in_err-name c =
+pub returns-in_err-name-in-Term-Digit : goal.returns-in_err-name-in-Term-Digit
+returns-in_err-name-in-Term-Digit c =
     let arm = c.in-Term-Digit in
     stepped (reading_of c.args.self) (Class.Digit arm.digit) c.args.byte arm.ensures c.requires.ranged c.from_residual.result
-    (ap (option_map reading_of) c.from_residual.ensures ∙ ap (option_map (λ n. within arm.place arm.stem (Some n))) (grown_checked 65535 arm.number arm.digit None c.in_err-name.ensures) ∙ sym (ap (λ s. step (reading_of s) (Class.Digit arm.digit)) arm.is-0))
+    (ap (option_map reading_of) c.from_residual.ensures ∙ ap (option_map (λ n. within arm.place arm.stem (Some n))) (grown_checked 65535 arm.number arm.digit None c.in_err-name-in-Term-Digit.ensures) ∙ sym (ap (λ s. step (reading_of s) (Class.Digit arm.digit)) arm.is-0))
 
-pub returns-in_ok-value : goal.returns-in_ok-value
-returns-in_ok-value c =
+pub returns-in_ok-value-in-Number-Digit : goal.returns-in_ok-value-in-Number-Digit
+returns-in_ok-value-in-Number-Digit c =
     let arm = c.in-Number-Digit in
-    let value = c.in_ok-value.value in
+    let value = c.in_ok-value-in-Number-Digit.value in
     stepped (reading_of c.args.self) (Class.Digit arm.digit) c.args.byte arm.ensures c.requires.ranged (Some (State.Number arm.path (Some value)))
-    (ap (option_map (λ n. within_value (term_of arm.path) (Some n))) (grown_checked 18446744073709551615 arm.number arm.digit (Some value) c.in_ok-value.ensures) ∙ sym (ap (λ s. step (reading_of s) (Class.Digit arm.digit)) arm.is-0))
+    (ap (option_map (λ n. within_value (term_of arm.path) (Some n))) (grown_checked 18446744073709551615 arm.number arm.digit (Some value) c.in_ok-value-in-Number-Digit.ensures) ∙ sym (ap (λ s. step (reading_of s) (Class.Digit arm.digit)) arm.is-0))
 
-pub returns-in_err-value : goal.returns-in_err-value
-returns-in_err-value c =
+pub returns-in_err-value-in-Number-Digit : goal.returns-in_err-value-in-Number-Digit
+returns-in_err-value-in-Number-Digit c =
     let arm = c.in-Number-Digit in
-    stepped (reading_of c.args.self) (Class.Digit arm.digit) c.args.byte arm.ensures c.requires.ranged c.from_residual-in_err-value.result
-    (ap (option_map reading_of) c.from_residual-in_err-value.ensures ∙ ap (option_map (λ n. within_value (term_of arm.path) (Some n))) (grown_checked 18446744073709551615 arm.number arm.digit None c.in_err-value.ensures) ∙ sym (ap (λ s. step (reading_of s) (Class.Digit arm.digit)) arm.is-0))
+    stepped (reading_of c.args.self) (Class.Digit arm.digit) c.args.byte arm.ensures c.requires.ranged c.from_residual-in_err-value-in-Number-Digit.result
+    (ap (option_map reading_of) c.from_residual-in_err-value-in-Number-Digit.ensures ∙ ap (option_map (λ n. within_value (term_of arm.path) (Some n))) (grown_checked 18446744073709551615 arm.number arm.digit None c.in_err-value-in-Number-Digit.ensures) ∙ sym (ap (λ s. step (reading_of s) (Class.Digit arm.digit)) arm.is-0))
 
 pub returns-in-Start-default : goal.returns-in-Start-default
 returns-in-Start-default c =
