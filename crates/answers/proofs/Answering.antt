@@ -2,7 +2,7 @@
 use Rattle.std.proofs.Common.{◌≡◌, ℕ, suc, ◌<◌, ◌≤◌, Bool, List, [], ◌∷◌, ◌++◌, length, drop, Ok, Err, Result, refl, ap, arith}
 use mathlib.Core.Option.{Option, some, none}
 use Rattle.std.specs.declared.option.Option as rust
-use Rattle.std.specs.declared.option.Option.TheVariants as rust-option
+use Rattle.std.specs.declared.option.Option.TheVariants as rust_option
 use Rattle.kinds.specs.Meaning.{Meaning, Lawful}
 use Rattle.features.specs.Terms.{Term, Statement, SameMembers}
 use Rattle.features.specs.Closing.{Valued}
@@ -82,7 +82,7 @@ module _ (m : Meaning) (lawful : Lawful m) (vars : ℕ) (said : List Statement) 
   value_one (Value.faulty e) (valued v f j w) = absurd (not_none e f)
   value_one (Value.faulty e) (nothing f n) = absurd (not_none e f)
   value_one (valued v e j w) (Value.faulty f) = absurd (not_none f e)
-  value_one {p} (valued v e j w) (valued v' e' j' w') = ap (λ (z : ℕ). Ok (rust-option.Some z)) (valued_one m lawful vars said p v v' w w')
+  value_one {p} (valued v e j w) (valued v' e' j' w') = ap (λ (z : ℕ). Ok (rust_option.Some z)) (valued_one m lawful vars said p v v' w w')
   value_one (valued v e j w) (nothing f n) = absurd (n j)
   value_one (nothing e n) (Value.faulty f) = absurd (not_none f e)
   value_one (nothing e n) (valued v f j w) = absurd (n j)

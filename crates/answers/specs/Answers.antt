@@ -2,7 +2,7 @@
 use Rattle.std.specs.Prelude.{◌≡◌, ℕ, suc, ◌<◌, ◌≤◌, Bool, true, false, cond, List, [], ◌∷◌, ◌++◌, length, drop, Ok, Err, Result, nat_le, nat_lt}
 use Rattle.std.proofs.Math.Option.{Option, some, none}
 use Rattle.std.specs.declared.option.Option as rust
-use Rattle.std.specs.declared.option.Option.TheVariants as rust-option
+use Rattle.std.specs.declared.option.Option.TheVariants as rust_option
 use Rattle.kinds.specs.Meaning.{Meaning}
 use Rattle.features.specs.Terms.{Term, Statement, equals, is, apart}
 use Rattle.features.specs.Graphs.{Graph}
@@ -100,8 +100,8 @@ pub data Same (vars : ℕ) (said : List Statement) (p q : Term) : Result Bool Re
 
 pub data Value (m : Meaning) (vars : ℕ) (said : List Statement) (p : Term) : Result (rust.Option ℕ) Refusal → Type 0 where
   faulty : {r : Refusal} → term-fault vars 0 p ≡ some r → Value m vars said p (Err r)
-  valued : (v : ℕ) → term-fault vars 0 p ≡ none → Joined vars said p p → Valued m vars said p v → Value m vars said p (Ok (rust-option.Some v))
-  nothing : term-fault vars 0 p ≡ none → (Joined vars said p p → ⊥) → Value m vars said p (Ok rust-option.None)
+  valued : (v : ℕ) → term-fault vars 0 p ≡ none → Joined vars said p p → Valued m vars said p v → Value m vars said p (Ok (rust_option.Some v))
+  nothing : term-fault vars 0 p ≡ none → (Joined vars said p p → ⊥) → Value m vars said p (Ok rust_option.None)
 
 pub data Listing (m : Meaning) (vars : ℕ) (said : List Statement) (before : List ℕ) : Result ℕ Refusal → List ℕ → Type 0 where
   short : (bytes : List ℕ) → Listed m vars said bytes → length before < length bytes → Listing m vars said before (Err (ShortBuffer (length bytes))) before

@@ -18,7 +18,7 @@ impl Closer {
         requires few { table.now.used ≤ 256 }
         requires left { Proper-term table.now.vars (term_of p.var p.path.now) }
         requires right { Proper-term table.now.vars (term_of q.var q.path.now) }
-        ensures { Closes (meaning kind.now) table.now (equation (term_of p.entry.var p.entry.path.now) (term_of q.entry.var q.entry.path.now)) self.new }
+        ensures { Closes (K.meaning kind.now) table.now (equation (term_of p.entry.var p.entry.path.now) (term_of q.entry.var q.entry.path.now)) self.new }
     {
         let top = kind.top();
         self.work.begin(table);
@@ -35,7 +35,7 @@ impl Closer {
         requires sound { Sound table.now }
         requires few { table.now.used ≤ 256 }
         requires left { Proper-term table.now.vars (term_of p.var p.path.now) }
-        ensures { Closes (meaning kind.now) table.now (assignment (term_of p.entry.var p.entry.path.now) value) self.new }
+        ensures { Closes (K.meaning kind.now) table.now (assignment (term_of p.entry.var p.entry.path.now) value) self.new }
     {
         let top = kind.top();
         self.work.begin(table);

@@ -25,7 +25,7 @@ impl Closer {
     pub fn first_leaf<K: Kind>(&self, kind: &K) -> Option<u16>
         requires arranged { Arranged self.now }
         requires valued { (k : ℕ) → k < self.now.numbers.count → closed_state self.now k ≢ contradiction }
-        ensures { MatchOption result ((k : ℕ) → k < self.now.numbers.count → LeafAt (meaning kind.now) (closed_graph self.now) (closed_state self.now) k → ⊥) (λ k. (k < self.now.numbers.count) × LeafAt (meaning kind.now) (closed_graph self.now) (closed_state self.now) k × ((j : ℕ) → j < k → LeafAt (meaning kind.now) (closed_graph self.now) (closed_state self.now) j → ⊥)) }
+        ensures { MatchOption result ((k : ℕ) → k < self.now.numbers.count → LeafAt (K.meaning kind.now) (closed_graph self.now) (closed_state self.now) k → ⊥) (λ k. (k < self.now.numbers.count) × LeafAt (K.meaning kind.now) (closed_graph self.now) (closed_state self.now) k × ((j : ℕ) → j < k → LeafAt (K.meaning kind.now) (closed_graph self.now) (closed_state self.now) j → ⊥)) }
     {
         for k in 0..self.next.used {
             let node = &self.next.rows[k];

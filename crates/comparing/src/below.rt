@@ -5,7 +5,7 @@ use kinds::kind::Kind;
 
 // Is v at or below w? No for what is no value.
 pub fn below<K: Kind>(kind: &K, v: u64, w: u64) -> bool
-    ensures { result ≡ (meaning kind.now).below v w }
+    ensures { result ≡ (K.meaning kind.now).below v w }
 {
     match kind.meet(v, w) {
         Some(meet) => meet == v,

@@ -16,7 +16,7 @@ fn values_below<K: Kind>(kind: &K, from: &Table, into: &Table, images: &[u16]) -
     requires into { Sound into.now }
     requires room { from.now.used ≤ length images.now }
     requires inside { (n : ℕ) → n < from.now.used → slice_index images.now n < into.now.used }
-    ensures { MatchBool result ((n : ℕ) → n < from.now.used → (meaning kind.now).below ((graph into.now).value (slice_index images.now n)) ((graph from.now).value n) ≡ true) (((n : ℕ) → n < from.now.used → (meaning kind.now).below ((graph into.now).value (slice_index images.now n)) ((graph from.now).value n) ≡ true) → ⊥) }
+    ensures { MatchBool result ((n : ℕ) → n < from.now.used → (K.meaning kind.now).below ((graph into.now).value (slice_index images.now n)) ((graph from.now).value n) ≡ true) (((n : ℕ) → n < from.now.used → (K.meaning kind.now).below ((graph into.now).value (slice_index images.now n)) ((graph from.now).value n) ≡ true) → ⊥) }
 {
     for node in 0..from.used {
         let value = from.rows[node].value;
@@ -30,7 +30,7 @@ fn values_below<K: Kind>(kind: &K, from: &Table, into: &Table, images: &[u16]) -
 
 // Yes exactly where a map leads from the one graph into the other: no node has more than one image that it could have.
 pub fn maps<K: Kind>(kind: &K, from: &FeatureGraph, into: &FeatureGraph) -> bool
-    ensures { MatchBool result ((f : ℕ → ℕ) × Map (meaning kind.now) (graph_of from.now) (graph_of into.now) f) ((f : ℕ → ℕ) → Map (meaning kind.now) (graph_of from.now) (graph_of into.now) f → ⊥) }
+    ensures { MatchBool result ((f : ℕ → ℕ) × Map (K.meaning kind.now) (graph_of from.now) (graph_of into.now) f) ((f : ℕ → ℕ) → Map (K.meaning kind.now) (graph_of from.now) (graph_of into.now) f → ⊥) }
 {
     let source = from.table();
     let target = into.table();

@@ -22,7 +22,7 @@ use tables::table::Table;
 fn read_table<K: Kind>(kind: &K, bytes: &[u8], table: &mut Table) -> Result<(), Misread>
     requires { Sound table.old }
     ensures sound { Sound table.new }
-    ensures cases { MatchResult result (λ _. Written (meaning kind.now) bytes.now (graph table.new) × BreadthFirst (graph table.new)) (λ e. Ground (meaning kind.now) bytes.now e) }
+    ensures cases { MatchResult result (λ _. Written (K.meaning kind.now) bytes.now (graph table.new) × BreadthFirst (graph table.new)) (λ e. Ground (K.meaning kind.now) bytes.now e) }
 {
     table.used = 0;
     table.vars = 0;
@@ -40,8 +40,8 @@ fn read_table<K: Kind>(kind: &K, bytes: &[u8], table: &mut Table) -> Result<(), 
 impl FeatureGraph {
     // The graph of which these are the bytes, in listing order; where there is none, the graph stays as it was.
     pub fn read<K: Kind>(&mut self, kind: &K, bytes: &[u8]) -> Result<(), Misread>
-        ensures cases { MatchResult result (λ _. Written (meaning kind.now) bytes.now (graph_of self.new) × InOrder (graph_of self.new)) (λ e. Ground (meaning kind.now) bytes.now e × (graph_of self.new ≡ graph_of self.old)) }
-        ensures accepted { (g : Graph) → Written (meaning kind.now) bytes.now g → InOrder g → (is_ok result ≡ true) × SameGraph g (graph_of self.new) }
+        ensures cases { MatchResult result (λ _. Written (K.meaning kind.now) bytes.now (graph_of self.new) × InOrder (graph_of self.new)) (λ e. Ground (K.meaning kind.now) bytes.now e × (graph_of self.new ≡ graph_of self.old)) }
+        ensures accepted { (g : Graph) → Written (K.meaning kind.now) bytes.now g → InOrder g → (is_ok result ≡ true) × SameGraph g (graph_of self.new) }
     {
         read_table(kind, bytes, &mut self.spare)?;
         mem::swap(&mut self.table, &mut self.spare);

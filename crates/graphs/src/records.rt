@@ -33,10 +33,10 @@ fn read_record<K: Kind>(
     place: usize,
 ) -> Result<Node, Misread>
     requires counts { TrailerOf bytes.now trailer }
-    requires next { Reached (meaning kind.now) bytes.now node }
+    requires next { Reached (K.meaning kind.now) bytes.now node }
     requires starts { place ≡ start bytes.now node }
     requires begins { place ≤ trailer.place }
-    ensures { MatchResult result (λ row. Right (meaning kind.now) bytes.now node × RowAt bytes.now (start bytes.now node) row) (λ e. Ground (meaning kind.now) bytes.now e) }
+    ensures { MatchResult result (λ row. Right (K.meaning kind.now) bytes.now node × RowAt bytes.now (start bytes.now node) row) (λ e. Ground (K.meaning kind.now) bytes.now e) }
 {
     let name = node as u16;
     if !record_fits(bytes, place, trailer.place) {
@@ -67,7 +67,7 @@ pub fn read_records<K: Kind>(
 ) -> Result<(), Misread>
     requires counts { TrailerOf bytes.now trailer }
     requires room { 256 ≤ length rows.old }
-    ensures { MatchResult result (λ _. RightBelow (meaning kind.now) bytes.now (node_count bytes.now) × (start bytes.now (node_count bytes.now) ≡ table_place bytes.now) × RowsOf (meaning kind.now) bytes.now rows.new (node_count bytes.now)) (λ e. Ground (meaning kind.now) bytes.now e) }
+    ensures { MatchResult result (λ _. RightBelow (K.meaning kind.now) bytes.now (node_count bytes.now) × (start bytes.now (node_count bytes.now) ≡ table_place bytes.now) × RowsOf (K.meaning kind.now) bytes.now rows.new (node_count bytes.now)) (λ e. Ground (K.meaning kind.now) bytes.now e) }
 {
     let mut place = 0;
     for node in 0..trailer.nodes {

@@ -1,6 +1,6 @@
 // A workspace takes up a table in which nothing is joined.
 ghost use Rattle.std.specs.Prelude.{◌≡◌, ℕ, ◌<◌, ◌≤◌, false, length, slice_index, slice_index_or};
-ghost use Rattle.std.proofs.Math.Option.{some as stands-value};
+ghost use Rattle.std.proofs.Math.Option.{some as stands_value};
 ghost use Rattle.tables.specs.Copying.{Copied};
 ghost use Rattle.tables.specs.Views.{graph, Sound};
 ghost use Rattle.joining.specs.Workspaces.{rep, state, Room};
@@ -36,7 +36,7 @@ impl Workspace {
         ensures copied { Copied from.now self.new.table }
         ensures enough { Room self.new }
         ensures separate { (x : ℕ) → x < 272 → rep self.new x ≡ x }
-        ensures values { (x : ℕ) → x < 272 → state self.new x ≡ stands-value ((graph self.new.table).value x) }
+        ensures values { (x : ℕ) → x < 272 → state self.new x ≡ stands_value ((graph self.new.table).value x) }
         ensures joins { self.new.joins ≡ 0 }
     {
         self.table.copy_from(from);

@@ -13,7 +13,7 @@ impl Workspace {
     pub fn give<K: Kind>(&mut self, kind: &K, row: u16, value: u64)
         requires enough { Room self.old }
         requires row { row < 272 }
-        ensures given { Given (meaning kind.now) row value (graph self.old.table) (state self.old) (graph self.new.table) (state self.new) }
+        ensures given { Given (K.meaning kind.now) row value (graph self.old.table) (state self.old) (graph self.new.table) (state self.new) }
         ensures enough { Room self.new }
         ensures sound { Sound self.old.table → Sound self.new.table }
         ensures classes { self.new.class ≡ self.old.class }

@@ -20,7 +20,7 @@ impl Workspace {
         requires left { left < self.old.table.used }
         requires right { right < self.old.table.used }
         requires buffer { 8705 ≤ length buffer.old }
-        ensures joined { Valued (meaning kind.now) self.old → Representatives (meaning kind.now) left right (graph self.old.table) (state self.old) (rep self.new) (graph self.new.table) (state self.new) }
+        ensures joined { Valued (K.meaning kind.now) self.old → Representatives (K.meaning kind.now) left right (graph self.old.table) (state self.old) (rep self.new) (graph self.new.table) (state self.new) }
         ensures sound { Sound self.new.table }
         ensures enough { Room self.new }
         ensures joins { self.new.joins + representatives (rep self.new) self.old.table.used ≡ self.old.table.used }

@@ -8,7 +8,7 @@ use kinds::kind::Kind;
 
 // The greatest value at or below both, or none where one is none or there is no such value.
 pub fn meet_states<K: Kind>(kind: &K, a: Option<u64>, b: Option<u64>) -> Option<u64>
-    ensures { Meets (meaning kind.now) (λ o. (o ≡ standing a) ⊎ (o ≡ standing b)) (standing result) }
+    ensures { Meets (K.meaning kind.now) (λ o. (o ≡ standing a) ⊎ (o ≡ standing b)) (standing result) }
 {
     match a {
         Some(x) => match b {

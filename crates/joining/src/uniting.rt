@@ -22,7 +22,7 @@ impl Workspace {
         requires few { self.old.joins < 272 }
         requires room { length (waiting queue.old) + 32 ≤ capacity queue.old }
         ensures relabels { Relabels 272 (rep self.old) to from (rep self.new) }
-        ensures meeting { Meeting (meaning kind.now) (state self.old) to from (state self.new) }
+        ensures meeting { Meeting (K.meaning kind.now) (state self.old) to from (state self.new) }
         ensures takes { Takes (graph self.old.table).edge (Waits (waiting queue.old)) to from (graph self.new.table).edge (Waits (waiting queue.new)) }
         ensures same { SameTable self.old self.new }
         ensures joins { self.new.joins ≡ self.old.joins + 1 }

@@ -2,7 +2,7 @@
 ghost use Rattle.std.specs.Prelude.{◌≡◌, ◌^◌, ◌<◌, ◌≤◌, length};
 ghost use Rattle.std.specs.Option.{option_map, SomeIff};
 ghost use Rattle.notation.specs.Notation.{space, point};
-ghost use Rattle.notation.specs.Readings.{named, text, closed as term-closed, Ranged, Admits, appended as appended-number, related, ended as ended-command};
+ghost use Rattle.notation.specs.Readings.{named, text, closed as term_closed, Ranged, Admits, appended as appended_number, related, ended as ended_command};
 ghost use Rattle.notation.specs.Views.{term_of, Room, command_of, operand_of, within, reading_of, Steps, Says};
 
 use crate::class::{Call, Class, Relation};
@@ -16,7 +16,7 @@ const GREATEST_NAME: u64 = 65535;
 // The number with one digit more. A zero takes none, and no number passes the greatest.
 fn appended(number: Option<u64>, digit: u8, greatest: u64) -> Option<u64>
     requires { (digit < 10) × (10 ≤ greatest) }
-    ensures { SomeIff result (Admits greatest number digit) (appended-number number digit) }
+    ensures { SomeIff result (Admits greatest number digit) (appended_number number digit) }
 {
     let digit = u64::from(digit);
     match number {
@@ -35,7 +35,7 @@ fn appended(number: Option<u64>, digit: u8, greatest: u64) -> Option<u64>
 fn closed(stem: Option<Path>, number: u64) -> Path
     requires fits { number < 2 ^ 16 }
     requires room { Room stem }
-    ensures { term_of result ≡ term-closed (option_map term_of stem) number }
+    ensures { term_of result ≡ term_closed (option_map term_of stem) number }
 {
     match stem {
         None => Path::only(number as u16),
@@ -92,7 +92,7 @@ impl Place {
 
     // The command of a line that ends after the term.
     fn ended(self, path: Path) -> Option<Command>
-        ensures { option_map command_of result ≡ ended-command (operand_of self) (term_of path) }
+        ensures { option_map command_of result ≡ ended_command (operand_of self) (term_of path) }
     {
         match self {
             Place::Value => Some(Command::Value(path)),

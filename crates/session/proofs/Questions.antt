@@ -2,7 +2,7 @@
 use Rattle.std.proofs.Common.{◌≡◌, ℕ, Bool, true, false, List, Ok, Err, MatchBool, Result, refl, subst}
 use mathlib.Core.Option.{some, none}
 use Rattle.std.specs.declared.option.Option as rust
-use Rattle.std.specs.declared.option.Option.TheVariants as rust-option
+use Rattle.std.specs.declared.option.Option.TheVariants as rust_option
 use Rattle.kinds.specs.Meaning.{Meaning}
 use Rattle.features.specs.Terms.{Term, Statement}
 use Rattle.features.specs.Graphs.{Graph, Denotes}
@@ -37,10 +37,10 @@ module _ {S : Type 0} (graph : S → Graph) (kept : S → List Statement) (m : M
     value_refused r e = value_asked p (Err r) (λ vars said has. Value.faulty (subst (λ (n : ℕ). term-fault n 0 p ≡ some r) has.holds.all e))
 
     module _ (free : term-fault (graph s).vars 0 p ≡ none) where
-      pub value_found : (n : ℕ) → Denotes (graph s) p n → Step graph kept m s (asked (ask_value p) (gives (Ok (rust-option.Some ((graph s).value n))))) s
-      value_found n d = value_asked p (Ok (rust-option.Some ((graph s).value n))) (λ vars said has.
+      pub value_found : (n : ℕ) → Denotes (graph s) p n → Step graph kept m s (asked (ask_value p) (gives (Ok (rust_option.Some ((graph s).value n))))) s
+      value_found n d = value_asked p (Ok (rust_option.Some ((graph s).value n))) (λ vars said has.
           valued ((graph s).value n) (subst (λ (n : ℕ). term-fault n 0 p ≡ none) has.holds.all free) (has.holds.nothing_else p p n d d) (has.holds.values p n d))
 
-      pub value_absent : ((n : ℕ) → Denotes (graph s) p n → ⊥) → Step graph kept m s (asked (ask_value p) (gives (Ok rust-option.None))) s
-      value_absent never = value_asked p (Ok rust-option.None) (λ vars said has.
+      pub value_absent : ((n : ℕ) → Denotes (graph s) p n → ⊥) → Step graph kept m s (asked (ask_value p) (gives (Ok rust_option.None))) s
+      value_absent never = value_asked p (Ok rust_option.None) (λ vars said has.
           nothing (subst (λ (n : ℕ). term-fault n 0 p ≡ none) has.holds.all free) (λ j. let d = has.holds.joined p p j in never d.0 d.1))

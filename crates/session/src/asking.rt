@@ -14,7 +14,7 @@ use kinds::kind::Kind;
 impl<K: Kind> Session<K> {
     // Do both terms denote one node?
     pub fn same(&self, p: Term<'_>, q: Term<'_>) -> Result<bool, Refusal>
-        ensures { Step graph kept (meaning self.now.kind) self.now (asked (ask_same (term_of p.entry) (term_of q.entry)) (says result)) self.now }
+        ensures { Step graph kept (K.meaning self.now.kind) self.now (asked (ask_same (term_of p.entry) (term_of q.entry)) (says result)) self.now }
     {
         check_pair(p, q, self.table.vars)?;
         Ok(on_one_node(&self.table, p, q))
@@ -22,7 +22,7 @@ impl<K: Kind> Session<K> {
 
     // The value of a term's node, or none where it denotes nothing.
     pub fn value(&self, p: Term<'_>) -> Result<Option<u64>, Refusal>
-        ensures { Step graph kept (meaning self.now.kind) self.now (asked (ask_value (term_of p.entry)) (gives result)) self.now }
+        ensures { Step graph kept (K.meaning self.now.kind) self.now (asked (ask_value (term_of p.entry)) (gives result)) self.now }
     {
         check(p, self.table.vars, 0)?;
         match node_of(&self.table, p) {

@@ -1,6 +1,6 @@
 // What is wrong with a term before any graph is looked at.
 ghost use Rattle.std.specs.Prelude.{◌≡◌, ℕ, ◌+◌, ◌<◌, length, MatchOption};
-ghost use Rattle.std.proofs.Math.Option.{some as fault-is, none as no_fault};
+ghost use Rattle.std.proofs.Math.Option.{some as fault_is, none as no_fault};
 ghost use Rattle.answers.specs.declared.refusal.Refusal.TheVariants.{NoAttribute};
 ghost use Rattle.answers.specs.Answers.{term-fault, above-31, pair-fault};
 ghost use Rattle.session.specs.Checks.{Reports};
@@ -14,7 +14,7 @@ const LAST: u16 = 31;
 
 // The first attribute past the last that there is.
 fn first_above(path: &[u16]) -> Option<usize>
-    ensures { MatchOption result ((side at : ℕ) → above-31 side at path.now ≡ no_fault) (λ i. (i < length path.now) × ((side at : ℕ) → above-31 side at path.now ≡ fault-is (NoAttribute side (at + i)))) }
+    ensures { MatchOption result ((side at : ℕ) → above-31 side at path.now ≡ no_fault) (λ i. (i < length path.now) × ((side at : ℕ) → above-31 side at path.now ≡ fault_is (NoAttribute side (at + i)))) }
 {
     for (i, a) in path.iter().enumerate() {
         if *a > LAST {

@@ -12,7 +12,7 @@ use tables::storage::VARIABLES;
 impl<K: Kind> Session<K> {
     // One variable more, on a node of its own; the answer is its number.
     pub fn declare(&mut self) -> Result<u16, Refusal>
-        ensures step { Step graph kept (meaning self.old.kind) self.old (asked declare (declares result)) self.new }
+        ensures step { Step graph kept (K.meaning self.old.kind) self.old (asked declare (declares result)) self.new }
         ensures kind { self.new.kind ≡ self.old.kind }
     {
         if self.table.vars >= VARIABLES {

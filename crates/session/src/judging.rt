@@ -17,7 +17,7 @@ impl<K: Kind> Session<K> {
     pub(crate) fn judge(&self, trail: &mut [u16]) -> Result<(), Refusal>
         requires arranged { Arranged self.now.closer }
         requires space { 272 ≤ length trail.old }
-        ensures closed { (vars : ℕ) (said : List Statement) → Ready (meaning self.now.kind) (kept self.now) self.now.closer vars said → Closed (meaning self.now.kind) vars said trail.old result trail.new }
+        ensures closed { (vars : ℕ) (said : List Statement) → Ready (K.meaning self.now.kind) (kept self.now) self.now.closer vars said → Closed (K.meaning self.now.kind) vars said trail.old result trail.new }
         ensures fits { OnOk result ((self.now.closer.next.used ≤ 256) × ((k : ℕ) → k < self.now.closer.numbers.count → closed_state self.now.closer k ≢ contradiction)) }
     {
         if let Some(k) = self.closer.first_void() {

@@ -12,7 +12,7 @@ use listings::writer::write;
 impl<K: Kind> Session<K> {
     // Writes the graph, in listing order, and answers how many bytes that took; the rest of the buffer keeps its bytes.
     pub fn list(&mut self, out: &mut [u8]) -> Result<usize, Refusal>
-        ensures step { Step graph kept (meaning self.old.kind) self.old (asked (listing out.old) (lists result out.new)) self.new }
+        ensures step { Step graph kept (K.meaning self.old.kind) self.old (asked (listing out.old) (lists result out.new)) self.new }
         ensures kind { self.new.kind ≡ self.old.kind }
     {
         self.closer.list(&self.table);

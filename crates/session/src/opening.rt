@@ -12,7 +12,7 @@ use tables::table::Table;
 impl<K: Kind + Drop> Session<K> {
     // A session with no variable and no node, over a kind that it keeps unaltered. All memory is taken here.
     pub fn open(heap: Global, kind: K) -> Result<Session<K>, AllocError>
-        ensures { IfOk result (λ s. Promise graph kept (meaning kind) s × (s.kind ≡ kind)) }
+        ensures { IfOk result (λ s. Promise graph kept (K.meaning kind) s × (s.kind ≡ kind)) }
     {
         let table = Table::new(heap)?;
         let aparts = Vec::with_capacity(heap, APARTS)?;

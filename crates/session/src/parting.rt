@@ -2,7 +2,7 @@
 ghost use Rattle.std.specs.Prelude.{◌≡◌, ℕ, ◌<◌, MatchOption};
 ghost use Rattle.growth.specs.Joins.{ApartOnOne};
 ghost use Rattle.tables.specs.Views.{graph as graph_of, Sound};
-ghost use Rattle.features.specs.Terms.{apart as two-nodes};
+ghost use Rattle.features.specs.Terms.{apart as two_nodes};
 ghost use Rattle.answers.specs.Answers.{state, states};
 ghost use Rattle.answers.specs.Runs.{Step, asked};
 ghost use Rattle.session.specs.Parts.{term_of};
@@ -20,7 +20,7 @@ use tables::table::Table;
 impl<K: Kind> Session<K> {
     // The terms are to denote two nodes, or at least one of them nothing. Nothing is written to the trail.
     pub fn apart(&mut self, p: Term<'_>, q: Term<'_>, trail: &mut [u16]) -> Result<(), Refusal>
-        ensures step { Step graph kept (meaning self.old.kind) self.old (asked (state (two-nodes (term_of p.entry) (term_of q.entry)) trail.old) (states result trail.new)) self.new }
+        ensures step { Step graph kept (K.meaning self.old.kind) self.old (asked (state (two_nodes (term_of p.entry) (term_of q.entry)) trail.old) (states result trail.new)) self.new }
         ensures kind { self.new.kind ≡ self.old.kind }
     {
         check_pair(p, q, self.table.vars)?;

@@ -16,7 +16,7 @@ use tables::storage::CAPACITY;
 impl<K: Kind> Session<K> {
     // Both terms denote one node.
     pub fn equals(&mut self, p: Term<'_>, q: Term<'_>, trail: &mut [u16]) -> Result<(), Refusal>
-        ensures step { Step graph kept (meaning self.old.kind) self.old (asked (state (one_node (term_of p.entry) (term_of q.entry)) trail.old) (states result trail.new)) self.new }
+        ensures step { Step graph kept (K.meaning self.old.kind) self.old (asked (state (one_node (term_of p.entry) (term_of q.entry)) trail.old) (states result trail.new)) self.new }
         ensures kind { self.new.kind ≡ self.old.kind }
     {
         check_pair(p, q, self.table.vars)?;
@@ -31,7 +31,7 @@ impl<K: Kind> Session<K> {
 
     // The term denotes a node whose value is at or below the given one.
     pub fn is(&mut self, p: Term<'_>, value: u64, trail: &mut [u16]) -> Result<(), Refusal>
-        ensures step { Step graph kept (meaning self.old.kind) self.old (asked (state (value_is (term_of p.entry) value) trail.old) (states result trail.new)) self.new }
+        ensures step { Step graph kept (K.meaning self.old.kind) self.old (asked (state (value_is (term_of p.entry) value) trail.old) (states result trail.new)) self.new }
         ensures kind { self.new.kind ≡ self.old.kind }
     {
         check(p, self.table.vars, 0)?;

@@ -2,8 +2,8 @@
 ghost use Rattle.std.specs.Prelude.{◌≡◌, ℕ, ◌<◌, IfOk, vec_len};
 ghost use Rattle.std.specs.Borrow.{sem, follows};
 ghost use Rattle.std.specs.Vec.{with_item};
-ghost use Rattle.tables.specs.contracts.table.Table.{the_row as the-table};
-ghost use Rattle.tables.specs.contracts.node.Node.{the_row as the-node};
+ghost use Rattle.tables.specs.contracts.table.Table.{the_row as the_table};
+ghost use Rattle.tables.specs.contracts.node.Node.{the_row as the_node};
 ghost use Rattle.tables.specs.Views.{row as row_of, Sound};
 
 use crate::node::Node;
@@ -35,7 +35,7 @@ impl Table {
     pub fn row(&mut self, i: usize) -> &mut Node
         requires { i < vec_len self.old.rows }
         ensures read { result.now ≡ row_of self.old.rows.items i }
-        ensures* lent { sem 𝓛 (follows the-table the-node self.entry.ghost_name result.ghost_name (λ w. record { rows = with_item self.old.rows i w; used = self.old.used; roots = self.old.roots; vars = self.old.vars })) }
+        ensures* lent { sem 𝓛 (follows the_table the_node self.entry.ghost_name result.ghost_name (λ w. record { rows = with_item self.old.rows i w; used = self.old.used; roots = self.old.roots; vars = self.old.vars })) }
     {
         &mut self.rows[i]
     }

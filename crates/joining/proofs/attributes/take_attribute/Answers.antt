@@ -47,7 +47,7 @@ returns-in-None c =
     let leads = sym (ap (λ (r : Node). edge_of r c.args.attribute) read) ∙ c.in-Some.ensures in
     let read_to = read_row rows to c.index-2.result.now within c.index-2.ensures in
     let lacks = sym (ap (λ (r : Node). edge_of r c.args.attribute) read_to) ∙ c.in-None.ensures in
-    let lent = read_row rows to c.index-mut.result.now within c.index-mut.ensures.value in
+    let lent = read_row rows to c.index_mut.result.now within c.index_mut.ensures.value in
     let node = c.lead.new.self in
     record {
       edged = record { used = refl; vars = refl; roots = refl; rows = refl; values = value_kept rows to node within (c.lead.ensures.value ∙ ap (λ (r : Node). r.value) lent) };

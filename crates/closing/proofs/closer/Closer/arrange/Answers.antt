@@ -5,7 +5,7 @@ use Rattle.closing.proofs.closer.Closer.arrange.Goals as goal
 
 pub number-requires : goal.number-requires
 number-requires c =
-    record { sound = sound_known c.args.self.now.worked; room = numbers_room c.args.self.now.numbered; space = omega (arith, c.deref-mut.ensures.len, c.args.self.now.visitable) }
+    record { sound = sound_known c.args.self.now.worked; room = numbers_room c.args.self.now.numbered; space = omega (arith, c.deref_mut.ensures.len, c.args.self.now.visitable) }
 
 pub arrange-requires : goal.arrange-requires
 arrange-requires c =

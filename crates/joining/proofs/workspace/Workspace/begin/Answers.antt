@@ -16,9 +16,9 @@ returns c =
     record {
       copied = c.copy_from.ensures;
       enough = record { rows = c.copy_from.ensures.sound.rows; classes = c.requires.enough.classes; voids = c.requires.enough.voids };
-      separate = λ x l. ap (λ (z : List ℕ). get_or z x 0) class_is ∙ c.separate.ensures x (omega (arith, c.deref-mut.ensures.len, c.requires.enough.classes));
+      separate = λ x l. ap (λ (z : List ℕ). get_or z x 0) class_is ∙ c.separate.ensures x (omega (arith, c.deref_mut.ensures.len, c.requires.enough.classes));
       values = λ x l.
           ap (λ (b : Bool). cond b none (some ((graph c.copy_from.new.self).value x)))
-          (ap (λ (z : List Bool). get_or z x false) void_is ∙ c.allow_all.ensures x (omega (arith, c.deref-mut-2.ensures.len, c.requires.enough.voids)));
+          (ap (λ (z : List Bool). get_or z x false) void_is ∙ c.allow_all.ensures x (omega (arith, c.deref_mut-2.ensures.len, c.requires.enough.voids)));
       joins = refl;
     }

@@ -12,9 +12,9 @@ pub resolve_rows-requires : goal.resolve_rows-requires
 resolve_rows-requires c =
     let sound = c.requires.sound in
     record {
-      used = omega (arith, sound.used, sound.rows, c.deref-mut.ensures.len);
+      used = omega (arith, sound.used, sound.rows, c.deref_mut.ensures.len);
       inside = λ n a k l e.
-          let i = sound.edges_inside n a k l (ap (λ (z : List Node). edge_of (row z n) a) (sym c.deref-mut.ensures.value) ∙ e) in
+          let i = sound.edges_inside n a k l (ap (λ (z : List Node). edge_of (row z n) a) (sym c.deref_mut.ensures.value) ∙ e) in
           omega (arith, i, sound.used, c.requires.enough.classes, c.deref.ensures.len);
     }
 
@@ -41,13 +41,13 @@ returns c =
       classes = refl;
       voids = refl;
       joins = refl;
-      values = λ n. ap (λ (z : List Node). (row z n).value) rows_are ∙ c.resolve_rows.ensures.values n ∙ ap (λ (z : List Node). (row z n).value) c.deref-mut.ensures.value;
+      values = λ n. ap (λ (z : List Node). (row z n).value) rows_are ∙ c.resolve_rows.ensures.values n ∙ ap (λ (z : List Node). (row z n).value) c.deref_mut.ensures.value;
       edges = λ n a l.
           ap (λ (z : List Node). edge_of (row z n) a) rows_are ∙ c.resolve_rows.ensures.edges n a l
-          ∙ ap₂ (λ (cs : List ℕ) (rs : List Node). map (λ x. get_or cs x 0) (edge_of (row rs n) a)) c.deref.ensures.value c.deref-mut.ensures.value;
+          ∙ ap₂ (λ (cs : List ℕ) (rs : List Node). map (λ x. get_or cs x 0) (edge_of (row rs n) a)) c.deref.ensures.value c.deref_mut.ensures.value;
       roots = λ x l.
           ap (λ (z : List ℕ). get_or z x 0) roots_are ∙ c.resolve_roots.ensures x l
-          ∙ ap₂ (λ (cs rs : List ℕ). get_or cs (get_or rs x 0) 0) c.deref-2.ensures.value c.deref-mut-2.ensures.value;
+          ∙ ap₂ (λ (cs rs : List ℕ). get_or cs (get_or rs x 0) 0) c.deref-2.ensures.value c.deref_mut-2.ensures.value;
     } in
     record {
       resolved = resolved;

@@ -19,8 +19,8 @@ returns g c =
     let stands : (r : ℕ) → cond (get_or (vec_items after.void) r false) none (some ((graph table).value r)) ≡ state after r =
     λ r. ap (λ (v : ℕ). cond (get_or (vec_items after.void) r false) none (some v)) (took.edged.values r) in
     record {
-      relabels = relabels_at 272 (vec_items w.class) c.deref-mut.result.now (vec_items after.class) class c.args.to c.args.from c.deref-mut.ensures.value
-          (sym (ap vec_items put.classes ∙ refilled_items (vec_len w.class) class (drop (length class) (vec_items w.class)) long)) (c.deref-mut.ensures.len ∙ c.requires.enough.classes) c.relabel.ensures;
+      relabels = relabels_at 272 (vec_items w.class) c.deref_mut.result.now (vec_items after.class) class c.args.to c.args.from c.deref_mut.ensures.value
+          (sym (ap vec_items put.classes ∙ refilled_items (vec_len w.class) class (drop (length class) (vec_items w.class)) long)) (c.deref_mut.ensures.len ∙ c.requires.enough.classes) c.relabel.ensures;
       meeting = record {
         others = λ r n. stands r ∙ put.others r n;
         met = states_met (g.K.Kind.meaning c.args.kind.now) (standing c.state_of.result) (standing c.state_of-2.result) (standing c.meet_states-met.result) (state w c.args.to) (state w c.args.from) _
