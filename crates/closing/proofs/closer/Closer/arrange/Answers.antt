@@ -13,4 +13,11 @@ arrange-requires c =
 
 pub invariant_of-self : goal.invariant_of-self
 invariant_of-self c =
-    (c.args.self.now.worked, (c.args.self.now.roomy, (∣ c.arrange.ensures.sound ∣₁, (∣ c.number.ensures.room ∣₁, (c.args.self.now.joinable, (c.args.self.now.visitable, tt))))))
+    record {
+      worked = c.args.self.now.worked;
+      roomy = c.args.self.now.roomy;
+      sound = ∣ c.arrange.ensures.sound ∣₁;
+      numbered = ∣ c.number.ensures.room ∣₁;
+      joinable = c.args.self.now.joinable;
+      visitable = c.args.self.now.visitable;
+    }

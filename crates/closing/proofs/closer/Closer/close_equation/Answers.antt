@@ -39,7 +39,14 @@ grow-right-requires g c =
 
 pub invariant_of-self : goal.invariant_of-self
 invariant_of-self g c =
-    (∣ c.settle.ensures.sound ∣₁, (∣ c.settle.ensures.enough ∣₁, (c.args.self.now.sound, (c.args.self.now.numbered, (c.args.self.now.joinable, (c.args.self.now.visitable, tt))))))
+    record {
+      worked = ∣ c.settle.ensures.sound ∣₁;
+      roomy = ∣ c.settle.ensures.enough ∣₁;
+      sound = c.args.self.now.sound;
+      numbered = c.args.self.now.numbered;
+      joinable = c.args.self.now.joinable;
+      visitable = c.args.self.now.visitable;
+    }
 
 pub returns : goal.returns
 returns g c =

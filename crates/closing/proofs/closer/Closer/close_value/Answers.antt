@@ -26,7 +26,14 @@ grow-end-requires g c =
 
 pub invariant_of-self : goal.invariant_of-self
 invariant_of-self g c =
-    (∣ c.give.ensures.sound c.grow-end.ensures.sound ∣₁, (∣ c.give.ensures.enough ∣₁, (c.args.self.now.sound, (c.args.self.now.numbered, (c.args.self.now.joinable, (c.args.self.now.visitable, tt))))))
+    record {
+      worked = ∣ c.give.ensures.sound c.grow-end.ensures.sound ∣₁;
+      roomy = ∣ c.give.ensures.enough ∣₁;
+      sound = c.args.self.now.sound;
+      numbered = c.args.self.now.numbered;
+      joinable = c.args.self.now.joinable;
+      visitable = c.args.self.now.visitable;
+    }
 
 pub returns : goal.returns
 returns g c =

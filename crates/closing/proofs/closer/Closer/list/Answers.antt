@@ -15,7 +15,14 @@ begin-requires c =
 
 pub invariant_of-self : goal.invariant_of-self
 invariant_of-self c =
-    (∣ c.begin.ensures.copied.sound ∣₁, (∣ c.begin.ensures.enough ∣₁, (c.args.self.now.sound, (c.args.self.now.numbered, (c.args.self.now.joinable, (c.args.self.now.visitable, tt))))))
+    record {
+      worked = ∣ c.begin.ensures.copied.sound ∣₁;
+      roomy = ∣ c.begin.ensures.enough ∣₁;
+      sound = c.args.self.now.sound;
+      numbered = c.args.self.now.numbered;
+      joinable = c.args.self.now.joinable;
+      visitable = c.args.self.now.visitable;
+    }
 
 pub returns : goal.returns
 returns c = λ m.

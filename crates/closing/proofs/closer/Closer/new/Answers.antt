@@ -6,4 +6,11 @@ invariant_of-result c =
     let w = c.in_ok-work.ensures in
     let t = c.in_ok-next.ensures in
     let n = c.in_ok-numbers.ensures in
-    (∣ w.1 ∣₁, (∣ w.0 ∣₁, (∣ t.0 ∣₁, (∣ n.0 ∣₁, (search rules, search rules)))))
+    record {
+      worked = ∣ w.1 ∣₁;
+      roomy = ∣ w.0 ∣₁;
+      sound = ∣ t.0 ∣₁;
+      numbered = ∣ n.0 ∣₁;
+      joinable = search rules;
+      visitable = search rules;
+    }

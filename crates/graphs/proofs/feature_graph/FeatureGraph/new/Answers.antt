@@ -5,4 +5,9 @@ pub invariant_of-result : goal.invariant_of-result
 invariant_of-result c =
     let t = c.in_ok-table.ensures in
     let s = c.in_ok-spare.ensures in
-    (∣ t.0 ∣₁, (∣ s.0 ∣₁, (omega (arith, t.1), (∣ record { mentioned = λ n l. absurd (omega (arith, t.1)); numbered_before = λ n i a l. absurd (omega (arith, t.1)); rising = λ n o k l h i. absurd (omega (arith, t.1)) } ∣₁, tt))))
+    record {
+      sound = ∣ t.0 ∣₁;
+      room = ∣ s.0 ∣₁;
+      few = omega (arith, t.1);
+      ordered = ∣ record { mentioned = λ n l. absurd (omega (arith, t.1)); numbered_before = λ n i a l. absurd (omega (arith, t.1)); rising = λ n o k l h i. absurd (omega (arith, t.1)) } ∣₁;
+    }

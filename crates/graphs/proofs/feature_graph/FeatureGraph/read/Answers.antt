@@ -16,21 +16,31 @@ pub read_table-requires : goal.read_table-requires
 read_table-requires g c = sound_known c.args.self.now.room
 
 pub invariant_of-self : goal.invariant_of-self
-invariant_of-self g c = (c.args.self.now.sound, (∣ c.read_table.ensures.sound ∣₁, (c.args.self.now.few, (c.args.self.now.ordered, tt))))
+invariant_of-self g c = record {
+  sound = c.args.self.now.sound;
+  room = ∣ c.read_table.ensures.sound ∣₁;
+  few = c.args.self.now.few;
+  ordered = c.args.self.now.ordered;
+}
 
 pub invariant_of-self-2 : goal.invariant_of-self-2
 invariant_of-self-2 g c =
     let e = c.in_ok-read_table.ensures in
-    let x = sym c.swap.ensures.x-after in
-    let y = sym c.swap.ensures.y-after in
-    (∣ subst Sound x e.sound ∣₁, (subst (λ (z : Table). ∥ Sound z ∥₁) y c.args.self.now.sound, (subst (λ (z : Table). z.used ≤ 256) x e.cases.0.within.few_nodes, (∣ subst (λ (z : Table). BreadthFirst (graph z)) x e.cases.1 ∣₁, tt))))
+    let x = sym c.swap.ensures.x_after in
+    let y = sym c.swap.ensures.y_after in
+    record {
+      sound = ∣ subst Sound x e.sound ∣₁;
+      room = subst (λ (z : Table). ∥ Sound z ∥₁) y c.args.self.now.sound;
+      few = subst (λ (z : Table). z.used ≤ 256) x e.cases.0.within.few_nodes;
+      ordered = ∣ subst (λ (z : Table). BreadthFirst (graph z)) x e.cases.1 ∣₁;
+    }
 
 pub returns : goal.returns
 returns g c =
     let m = g.K.Kind.meaning c.args.kind.now in
     let bs = c.args.bytes.now in
     let e = c.in_ok-read_table.ensures in
-    let x = sym c.swap.ensures.x-after in
+    let x = sym c.swap.ensures.x_after in
     let t = graph c.read_table.new.table in
     let read = subst (λ (z : Table). Written m bs (graph z)) x e.cases.0 in
     record {

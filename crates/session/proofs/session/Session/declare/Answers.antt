@@ -20,7 +20,12 @@ add_variable-requires g c = record { sound = sound_known c.args.self.now.sound; 
 pub invariant_of-self : goal.invariant_of-self
 invariant_of-self g c =
     let s = c.args.self.now in
-    (∣ c.add_variable.ensures.sound ∣₁, (omega (arith, c.add_variable.ensures.new.nodes, c.if-self-ge-NODES.false), (s.few, (s.room, tt))))
+    record {
+      sound = ∣ c.add_variable.ensures.sound ∣₁;
+      nodes = omega (arith, c.add_variable.ensures.new.nodes, c.if-self-ge-NODES.false);
+      few = s.few;
+      room = s.room;
+    }
 
 pub returns : goal.returns
 returns g c =

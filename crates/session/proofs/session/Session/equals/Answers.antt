@@ -83,7 +83,7 @@ returns g c =
       step = accepted_leaving graph kept m lawful s _ (equals p q) before c.judge.new.trail
           (right_after graph kept m lawful s s (equals p q) c.close_equation.new.self closes.arranged before refl good free closes.stands (Ok tt) c.judge.new.trail c.in_ok-judge.ensures.closed)
           (λ vars said has.
-          subst (λ (u : Table). Holds m (tables.graph u) (kept s) vars (said ++ (equals p q ∷ []))) (sym c.swap.ensures.x-after)
+          subst (λ (u : Table). Holds m (tables.graph u) (kept s) vars (said ++ (equals p q ∷ []))) (sym c.swap.ensures.x_after)
           (next_holds m lawful c.close_equation.new.self closes.arranged (kept s) vars (said ++ (equals p q ∷ []))
           (ready_after graph kept m lawful s s (equals p q) c.close_equation.new.self closes.arranged before refl good free closes.stands vars said has) before c.in_ok-judge.ensures.fits.1));
       kind = refl;

@@ -95,7 +95,7 @@ returns g c =
       step = accepted_leaving graph kept m lawful s _ st before c.judge.new.trail
           (right_after graph kept m lawful s s st c.close_value.new.self closes.arranged before refl (faultless_sound s.table.vars 0 p term, value) free closes.stands (Ok tt) c.judge.new.trail c.in_ok-judge.ensures.closed)
           (λ vars said has.
-          subst (λ (u : Table). Holds m (tables.graph u) (kept s) vars (said ++ (st ∷ []))) (sym c.swap.ensures.x-after)
+          subst (λ (u : Table). Holds m (tables.graph u) (kept s) vars (said ++ (st ∷ []))) (sym c.swap.ensures.x_after)
           (next_holds m lawful c.close_value.new.self closes.arranged (kept s) vars (said ++ (st ∷ []))
           (ready_after graph kept m lawful s s st c.close_value.new.self closes.arranged before refl (faultless_sound s.table.vars 0 p term, value) free closes.stands vars said has) before c.in_ok-judge.ensures.fits.1));
       kind = refl;

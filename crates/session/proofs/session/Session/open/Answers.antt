@@ -11,7 +11,12 @@ pub invariant_of-result : goal.invariant_of-result
 invariant_of-result g c =
     let t = c.in_ok-table.ensures in
     let a = c.in_ok-aparts.ensures in
-    (∣ t.0 ∣₁, (omega (arith, t.1), (omega (arith, a.len), (a.capacity, tt))))
+    record {
+      sound = ∣ t.0 ∣₁;
+      nodes = omega (arith, t.1);
+      few = omega (arith, a.len);
+      room = a.capacity;
+    }
 
 pub returns : goal.returns
 returns g c =
