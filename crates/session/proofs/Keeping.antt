@@ -5,12 +5,13 @@ use lib.ListN.{length-map}
 use Rattle.features.specs.Terms.{Term, apart}
 use Rattle.features.specs.Graphs.{Graph}
 use Rattle.growth.specs.Joins.{OneNode, ApartOnOne}
+use Rattle.kinds.specs.declared.kind.Kind.{Ghosts}
 use Rattle.session.specs.declared.parts.Apart.{Apart}
 use Rattle.session.specs.declared.session.Session.{Session}
 use Rattle.session.specs.Parts.{held, kept_apart}
 use Rattle.session.specs.Sessions.{kept}
 
-pub kept_count : {K : Type 0} (s : Session K) → length (kept s) ≡ vec_len s.aparts
+pub kept_count : {K : Type 0} {G : Ghosts K} (s : Session K G) → length (kept s) ≡ vec_len s.aparts
 kept_count s = length-map (vec_items s.aparts) kept_apart ∙ sym s.aparts.ok.0
 
 -- one more is kept at the end

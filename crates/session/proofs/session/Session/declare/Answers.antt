@@ -15,7 +15,7 @@ returns-then-self-ge-NODES g c =
     record { step = no_node_left graph kept (g.K.Kind.meaning c.args.self.now.kind) (g.met.K.Kind.lawful c.args.self.now.kind) c.args.self.now c.if-self-ge-VARIABLES.false c.if-self-ge-NODES.true; kind = refl }
 
 pub add_variable-requires : goal.add_variable-requires
-add_variable-requires g c = record { sound = sound_known c.args.self.now.sound; row-left = omega (arith, c.if-self-ge-NODES.false); root-left = c.if-self-ge-VARIABLES.false }
+add_variable-requires g c = record { sound = sound_known c.args.self.now.sound; row_left = omega (arith, c.if-self-ge-NODES.false); root_left = c.if-self-ge-VARIABLES.false }
 
 pub invariant_of-self : goal.invariant_of-self
 invariant_of-self g c =
