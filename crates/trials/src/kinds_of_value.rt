@@ -10,6 +10,7 @@ use std::test::*;
 #[test]
 fn sets_meet_in_what_they_share(rt: HostRuntime) -> Result<(), Fail> {
     run(
+        &rt,
         rt.alloc(),
         ValueSets,
         &[
@@ -36,6 +37,7 @@ fn types_meet_in_a_leaf(rt: HostRuntime) -> Result<(), Fail> {
     let mut types = Types::fresh();
     types.fill(4, &[link(1, 0), link(2, 0), link(3, 1), link(3, 2)], 0b1000)?;
     run(
+        &rt,
         rt.alloc(),
         types,
         &[

@@ -22,27 +22,31 @@ fn full(rt: &impl Abort, heap: Global) -> Result<Trial<Atoms>, Fail> {
 #[test]
 fn nodes(rt: HostRuntime) -> Result<(), Fail> {
     let mut trial = full(&rt, rt.alloc())?;
-    trial.run(&[
-        (Declare, Refused(Refusal::VariablesFull)),
-        (
-            Equals(at(0, &[3]), at(0, &[3])),
-            Refused(Refusal::NodesFull),
-        ),
-        (Equals(at(2, &[3]), at(3, &[])), Accepted),
-        (
-            Equals(at(0, &[3]), at(0, &[3])),
-            Refused(Refusal::NodesFull),
-        ),
-        (Equals(at(0, &[]), at(1, &[])), Accepted),
-        (Equals(at(0, &[3]), at(0, &[3])), Accepted),
-        (Same(at(1, &[3]), at(0, &[3])), Truth(true)),
-        (Declare, Refused(Refusal::VariablesFull)),
-    ])
+    trial.run(
+        &rt,
+        &[
+            (Declare, Refused(Refusal::VariablesFull)),
+            (
+                Equals(at(0, &[3]), at(0, &[3])),
+                Refused(Refusal::NodesFull),
+            ),
+            (Equals(at(2, &[3]), at(3, &[])), Accepted),
+            (
+                Equals(at(0, &[3]), at(0, &[3])),
+                Refused(Refusal::NodesFull),
+            ),
+            (Equals(at(0, &[]), at(1, &[])), Accepted),
+            (Equals(at(0, &[3]), at(0, &[3])), Accepted),
+            (Same(at(1, &[3]), at(0, &[3])), Truth(true)),
+            (Declare, Refused(Refusal::VariablesFull)),
+        ],
+    )
 }
 
 #[test]
 fn terms(rt: HostRuntime) -> Result<(), Fail> {
     run(
+        &rt,
         rt.alloc(),
         Atoms,
         &[
@@ -91,11 +95,14 @@ fn aparts(rt: HostRuntime) -> Result<(), Fail> {
     for _ in 0..128 {
         assert_eq!(rt; trial.ask(Apart(at(0, &[]), at(0, &[1]))), Accepted);
     }
-    trial.run(&[
-        (Apart(at(0, &[]), at(0, &[])), Refused(Refusal::ApartsFull)),
-        (
-            Equals(at(0, &[1]), at(0, &[])),
-            Refused(Refusal::ApartClash(0)),
-        ),
-    ])
+    trial.run(
+        &rt,
+        &[
+            (Apart(at(0, &[]), at(0, &[])), Refused(Refusal::ApartsFull)),
+            (
+                Equals(at(0, &[1]), at(0, &[])),
+                Refused(Refusal::ApartClash(0)),
+            ),
+        ],
+    )
 }

@@ -19,11 +19,14 @@ fn a_new_session(rt: HostRuntime) -> Result<(), Fail> {
 #[test]
 fn a_loop(rt: HostRuntime) -> Result<(), Fail> {
     let mut trial = Trial::open(rt.alloc(), Atoms)?;
-    trial.run(&[
-        (Declare, Variable(0)),
-        (Equals(at(0, &[1]), at(0, &[])), Accepted),
-        (Same(at(0, &[1, 1, 1]), at(0, &[])), Truth(true)),
-    ])?;
+    trial.run(
+        &rt,
+        &[
+            (Declare, Variable(0)),
+            (Equals(at(0, &[1]), at(0, &[])), Accepted),
+            (Same(at(0, &[1, 1, 1]), at(0, &[])), Truth(true)),
+        ],
+    )?;
     let mut short = [9; 21];
     assert_eq!(rt;
         trial.session.list(&mut short),

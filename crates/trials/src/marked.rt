@@ -9,6 +9,7 @@ use std::test::*;
 #[test]
 fn one_value_on_two_nodes(rt: HostRuntime) -> Result<(), Fail> {
     let trail = run(
+        &rt,
         rt.alloc(),
         Atoms,
         &[
@@ -33,6 +34,7 @@ fn one_value_on_two_nodes(rt: HostRuntime) -> Result<(), Fail> {
 #[test]
 fn values_below_joined_variables(rt: HostRuntime) -> Result<(), Fail> {
     let trail = run(
+        &rt,
         rt.alloc(),
         Atoms,
         &[
@@ -56,6 +58,7 @@ fn values_below_joined_variables(rt: HostRuntime) -> Result<(), Fail> {
 #[test]
 fn a_term_apart_from_itself(rt: HostRuntime) -> Result<(), Fail> {
     let trail = run(
+        &rt,
         rt.alloc(),
         Atoms,
         &[
@@ -77,6 +80,7 @@ fn a_term_apart_from_itself(rt: HostRuntime) -> Result<(), Fail> {
 #[test]
 fn rings(rt: HostRuntime) -> Result<(), Fail> {
     run(
+        &rt,
         rt.alloc(),
         Atoms,
         &[

@@ -10,6 +10,7 @@ use std::test::*;
 #[test]
 fn values_before_leaves(rt: HostRuntime) -> Result<(), Fail> {
     let trail = run(
+        &rt,
         rt.alloc(),
         Atoms,
         &[
@@ -34,6 +35,7 @@ fn values_before_leaves(rt: HostRuntime) -> Result<(), Fail> {
 #[test]
 fn the_first_node(rt: HostRuntime) -> Result<(), Fail> {
     let trail = run(
+        &rt,
         rt.alloc(),
         Atoms,
         &[

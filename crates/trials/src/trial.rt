@@ -4,6 +4,7 @@ use kinds::kind::Kind;
 use session::parts::Term;
 use session::session::Session;
 use std::alloc::{AllocError, Global};
+use std::process::Abort;
 use std::test::*;
 
 // What no attribute is, to see what of a trail is written.
@@ -71,9 +72,9 @@ impl<K: Kind> Trial<K> {
     }
 
     // Every call is answered as its row says.
-    pub fn run(&mut self, rows: &[(Call<'_>, Answer)]) -> Result<(), Fail> {
+    pub fn run(&mut self, rt: &impl Abort, rows: &[(Call<'_>, Answer)]) -> Result<(), Fail> {
         for (i, (call, answer)) in rows.iter().enumerate() {
-            assert_eq!(self.ask(*call), *answer, "row {i}");
+            assert_eq!(rt; self.ask(*call), *answer, "row {i}");
         }
         Ok(())
     }
@@ -81,11 +82,12 @@ impl<K: Kind> Trial<K> {
 
 // Runs the rows in a new session, and gives the trail.
 pub fn run<K: Kind + Drop>(
+    rt: &impl Abort,
     heap: Global,
     kind: K,
     rows: &[(Call<'_>, Answer)],
 ) -> Result<[u16; 272], Fail> {
     let mut trial = Trial::open(heap, kind)?;
-    trial.run(rows)?;
+    trial.run(rt, rows)?;
     Ok(trial.trail)
 }
