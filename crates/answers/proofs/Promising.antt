@@ -13,7 +13,7 @@ use Rattle.features.proofs.General.{held_model, most_general}
 use Rattle.features.proofs.Unique.{one_listing}
 use Rattle.answers.specs.declared.refusal.Refusal.{Refusal}
 use Rattle.answers.specs.Refusals.{Clashes}
-use Rattle.answers.specs.Answers.{Call, Answer, state, list, states, lists, Right, Stated, Closed, fault, vars-after, said-after}
+use Rattle.answers.specs.Answers.{Call, state, list, states, lists, Right, Stated, Closed, fault, vars-after, said-after}
 use Rattle.answers.specs.Answers.{no_value, leaf_branches, not_apart, too_many, accepted, faultless, put, stated, listed}
 use Rattle.answers.specs.Runs.{Exchange, asked, vars_of, said_of, AllRight, Has, Step, Run, done, call, Promise}
 use Rattle.answers.proofs.Answering.{not_none, answers_are_unique}

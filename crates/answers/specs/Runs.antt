@@ -1,5 +1,5 @@
 -- Runs of calls, and what is promised of them: for anything that holds a graph and kept aparts, whatever it is made of.
-use Rattle.std.specs.Prelude.{◌≡◌, ℕ, List, [], ◌∷◌, ◌++◌, map, length, take, Ok, Err, Result}
+use Rattle.std.specs.Prelude.{◌≡◌, ℕ, List, [], ◌∷◌, ◌++◌, map, length, take, Ok, Result}
 use Rattle.std.proofs.Math.Option.{none}
 use Rattle.kinds.specs.Meaning.{Meaning}
 use Rattle.features.specs.Terms.{Statement, SameMembers}
@@ -9,7 +9,7 @@ use Rattle.features.specs.Order.{InOrder}
 use Rattle.features.specs.Bytes.{Written}
 use Rattle.features.specs.Theorems.{NoClash}
 use Rattle.answers.specs.Refusals.{Clashes}
-use Rattle.answers.specs.Answers.{Call, declare, state, list, Answer, states, lists, Right, Idle, fault, vars-after, said-after}
+use Rattle.answers.specs.Answers.{Call, state, list, Answer, states, lists, Right, Idle, fault, vars-after, said-after}
 use Rattle.answers.specs.declared.refusal.Refusal.{Refusal}
 
 -- one call of a run: what was asked and what was answered

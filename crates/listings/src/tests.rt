@@ -39,8 +39,8 @@ fn two_nodes_in_a_cycle(rt: HostRuntime) -> Result<(), Fail> {
     assert_eq!(rt; write(&table, &mut out), Ok(34));
     let first = b"\x02\x01\0\0\0\0\0\0\x01\x03\x01\0";
     let second = b"\0\0\0\0\0\0\0\0\x01\0\0\0";
-    assert_eq!(rt; &out[0..12], first);
-    assert_eq!(rt; &out[12..24], second);
-    assert_eq!(rt; &out[24..36], b"\0\0\x02\0\x01\0\x18\0\0\0\x07\x07");
+    assert_eq!(rt; &out[0..12], first.as_slice());
+    assert_eq!(rt; &out[12..24], second.as_slice());
+    assert_eq!(rt; &out[24..36], b"\0\0\x02\0\x01\0\x18\0\0\0\x07\x07".as_slice());
     Ok(())
 }

@@ -94,7 +94,7 @@ mod tests {
             return Err(Fail::new("no equation"));
         };
         assert_eq!(rt; left.var(), 0);
-        assert_eq!(rt; left.attributes(), &[65535, 2]);
+        assert_eq!(rt; left.attributes(), [65535, 2].as_slice());
         assert_eq!(rt; right.var(), 13);
         assert!(rt; right.attributes().is_empty());
         let Ok(Command::Is(_, value)) = read(b"k 7 18446744073709551615") else {

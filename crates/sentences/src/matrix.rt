@@ -1,4 +1,4 @@
-// A graph as attribute_value matrices, one for each word. Each pair of brackets holds the attributes of a node, one below the other; a node that is
+// A graph as attribute-value matrices, one for each word. Each pair of brackets holds the attributes of a node, one below the other; a node that is
 // reached in several ways has a number in brackets of its own, and stands in full only where it is reached first.
 use crate::outline::{Edge, Mention, Node, Outline};
 use manuals::manual::{Manual, Sentence};

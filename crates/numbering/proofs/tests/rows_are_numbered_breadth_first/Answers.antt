@@ -3,7 +3,7 @@ use Rattle.features.specs.Holding.{end, also}
 use Rattle.numbering.proofs.tests.rows_are_numbered_breadth_first.Goals as goal
 
 pub grow-end-requires : goal.grow-end-requires
-grow-end-requires c =
+grow-end-requires g c =
     let one : c.add_variable.new.self.used ≡ 1 = omega (arith, c.add_variable.ensures.new.nodes, c.in_ok-table.ensures.1) in
     record {
       sound = c.add_variable.ensures.sound;
@@ -13,7 +13,7 @@ grow-end-requires c =
     }
 
 pub grow-near-requires : goal.grow-near-requires
-grow-near-requires c =
+grow-near-requires g c =
     let one : c.add_variable.new.self.used ≡ 1 = omega (arith, c.add_variable.ensures.new.nodes, c.in_ok-table.ensures.1) in
     record {
       sound = c.grow-end.ensures.sound;

@@ -1,5 +1,5 @@
 use Rattle.std.proofs.Common.{sym}
-use Rattle.queue.specs.Waiting.{waiting, capacity}
+use Rattle.queue.specs.Waiting.{waiting}
 use Rattle.queue.proofs.Rotations.{length_front}
 use Rattle.queue.proofs.Queue.len.Goals as goal
 

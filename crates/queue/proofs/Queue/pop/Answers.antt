@@ -1,4 +1,4 @@
-use Rattle.std.proofs.Common.{◌≡◌, ℕ, ◌+◌, ◌-◌, ◌<◌, ◌≤◌, [], ◌∷◌, length, get_or, take, refl, ap, ◌∙◌, arith}
+use Rattle.std.proofs.Common.{◌≡◌, ℕ, ◌+◌, ◌-◌, ◌<◌, [], ◌∷◌, get_or, take, refl, ap, ◌∙◌, arith}
 use Rattle.queue.specs.Waiting.{rotated, waiting, capacity}
 use Rattle.queue.proofs.Rotations.{front_more, rotated_whole}
 use Rattle.queue.proofs.Queue.pop.Goals as goal
