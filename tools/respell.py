@@ -16,7 +16,7 @@ import sys
 WORD = r"[A-Za-z][\w'\-≤<≡*+]*"
 # what the check makes: goals, loops, branches and arms, and everything below the record of a goal's facts
 MADE = re.compile(r"^(?:loop|if|then|else|in_ok|in_err|in_default|in_let|match|returns|overflow_\w+|bounds|slice_bounds|invariant|decreases|invariant_of)-")
-ANSWER_FILES = ("Answers.antt", "Invariants.antt", "Proof.antt")
+ANSWER_FILE = re.compile(r"/proofs/.+/(?:Answers|Invariants|Proof)\.antt$")
 
 
 def read(path):
@@ -55,7 +55,7 @@ def imported():
 
 def declared(path):
     """Names that a file of specs/ or proofs/ declares, but for the answers that the check asks for."""
-    answers = os.path.basename(path) in ANSWER_FILES
+    answers = bool(ANSWER_FILE.search(path))
     names = set()
     for line in read(path).splitlines():
         code = line.split("--")[0] if line.lstrip().startswith("--") else line
@@ -112,7 +112,7 @@ def main():
         return
     for path in files(".antt") + files(".rt"):
         old = read(path)
-        new = respell(old, names, os.path.basename(path) in ANSWER_FILES) if path.endswith(".antt") else respell_code(old, names)
+        new = respell(old, names, bool(ANSWER_FILE.search(path))) if path.endswith(".antt") else respell_code(old, names)
         if new != old:
             with open(path, "w", encoding="utf-8") as f:
                 f.write(new)

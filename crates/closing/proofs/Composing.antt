@@ -1,22 +1,22 @@
 -- What stands after each step of a closing.
-use Rattle.std.proofs.Common.{◌≡◌, ℕ, ◌<◌, ◌≤◌, Bool, true, false, cond, List, [], ◌∷◌, ◌++◌, length, get_or, vec_items, sym, refl, ap, ◌∙◌, subst, arith}
+use Rattle.std.proofs.Common.{◌≡◌, ℕ, ◌<◌, ◌≤◌, Bool, true, false, cond, List, [], ◌∷◌, ◌++◌, length, get_or, vec_items, sym, refl, ap, subst, arith}
 use mathlib.Core.Option.{Option, some, none}
 use Rattle.std.proofs.lemmas.List.{get_or_read}
 use Rattle.kinds.specs.Meaning.{Meaning, Lawful}
 use Rattle.features.specs.Terms.{Term, Statement, equals, is}
-use Rattle.features.specs.Graphs.{Graph, Denotes}
-use Rattle.features.specs.Closing.{Came, top}
+use Rattle.features.specs.Graphs.{Graph}
+use Rattle.features.specs.Closing.{top}
 use Rattle.growth.specs.Standing.{Stands, Judged, greatest, void}
 use Rattle.growth.specs.Changes.{Grown, Given}
 use Rattle.growth.specs.Joins.{Representatives, renumbered}
-use Rattle.growth.specs.Theorems.{SameShape, mentioning, GrownTo}
+use Rattle.growth.specs.Theorems.{SameShape, mentioning}
 use Rattle.growth.proofs.Growing.{grown_from_root, pair_grown, equation_mentions, value_mentions}
 use Rattle.growth.proofs.Holding.{same_shape_stands}
 use Rattle.growth.proofs.Renumbering.{renumbered_stands, numbered_join_stands}
 use Rattle.growth.proofs.Values.{value_stands}
 use Rattle.tables.specs.declared.node.Node.{Node}
 use Rattle.tables.specs.declared.table.Table.{Table}
-use Rattle.tables.specs.Views.{graph, values, row, edge_of, Sound}
+use Rattle.tables.specs.Views.{graph, values, edge_of, Sound}
 use Rattle.tables.specs.Copying.{Copied}
 use Rattle.joining.specs.declared.workspace.Workspace.{Workspace}
 use Rattle.joining.specs.Workspaces.{state, rep, Valued}

@@ -9,7 +9,7 @@ use Rattle.kinds.specs.Meaning.{Meaning}
 use Rattle.kinds.specs.BitSets.{has_none}
 use Rattle.growth.specs.Joins.{LeafAt}
 use Rattle.tables.specs.declared.node.Node.{Node}
-use Rattle.tables.specs.Views.{graph, row, blank, edge_of}
+use Rattle.tables.specs.Views.{row, blank, edge_of}
 use Rattle.tables.proofs.Known.{sound_known}
 use Rattle.tables.proofs.Leading.{present, absent, and_false}
 use Rattle.tables.proofs.LowestBits.{lowest_is}

@@ -41,6 +41,9 @@ fn two_nodes_in_a_cycle(rt: HostRuntime) -> Result<(), Fail> {
     let second = b"\0\0\0\0\0\0\0\0\x01\0\0\0";
     assert_eq!(rt; &out[0..12], first.as_slice());
     assert_eq!(rt; &out[12..24], second.as_slice());
-    assert_eq!(rt; &out[24..36], b"\0\0\x02\0\x01\0\x18\0\0\0\x07\x07".as_slice());
+    assert_eq!(rt;
+        &out[24..36],
+        b"\0\0\x02\0\x01\0\x18\0\0\0\x07\x07".as_slice()
+    );
     Ok(())
 }

@@ -1,6 +1,6 @@
-use Rattle.std.proofs.Common.{◌≡◌, ◌≤◌, sym, refl, ◌∙◌, arith, rules}
+use Rattle.std.proofs.Common.{arith}
 use Rattle.tables.proofs.Known.{sound_known}
-use Rattle.closing.proofs.Knowing.{work_room, numbers_room}
+use Rattle.closing.proofs.Knowing.{numbers_room}
 use Rattle.closing.proofs.closer.Closer.arrange.Goals as goal
 
 pub number-requires : goal.number-requires

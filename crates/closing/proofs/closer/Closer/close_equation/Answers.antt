@@ -1,4 +1,4 @@
-use Rattle.std.proofs.Common.{◌≡◌, ℕ, ◌<◌, get_or, vec_items, sym, ap, ◌∙◌, subst, arith}
+use Rattle.std.proofs.Common.{ℕ, ◌<◌, subst, arith}
 use Rattle.growth.specs.Changes.{Grown}
 use Rattle.tables.specs.Views.{graph, values}
 use Rattle.tables.proofs.Known.{sound_known}

@@ -1,6 +1,4 @@
-use Rattle.std.proofs.Common.{◌≡◌, ℕ, ◌<◌, Bool, true, false, length, get_or, vec_items, vec_len, ◌∙◌, subst, arith, below_none, below_more}
-use mathlib.Core.Option.{none}
-use Rattle.std.proofs.lemmas.List.{get_or_read}
+use Rattle.std.proofs.Common.{◌≡◌, ℕ, ◌<◌, Bool, false, get_or, vec_items, ◌∙◌, subst, arith, below_none, below_more}
 use Rattle.numbering.specs.Given.{ord}
 use Rattle.closing.specs.declared.closer.Closer.{Closer}
 use Rattle.closing.specs.Closings.{Arranged}

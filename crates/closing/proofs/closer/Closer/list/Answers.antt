@@ -1,5 +1,4 @@
-use Rattle.std.proofs.Common.{◌≡◌, ℕ, ◌<◌, sym, ◌∙◌, subst, arith}
-use mathlib.Core.Option.{some}
+use Rattle.std.proofs.Common.{sym, subst, arith}
 use Rattle.growth.specs.Standing.{Stands}
 use Rattle.tables.specs.Views.{graph, values}
 use Rattle.tables.proofs.Known.{sound_known}
