@@ -8,7 +8,7 @@ use Rattle.features.specs.Closing.{Joined}
 use Rattle.features.specs.Holding.{Holds}
 use Rattle.features.specs.Theorems.{NoClash}
 use Rattle.features.proofs.Closure.{broken_is}
-use Rattle.answers.specs.Answers.{Call, Answer, Right, Stated, Closed, Idle, vars-after, said-after}
+use Rattle.answers.specs.Answers.{Call, Answer, Right, Stated, Closed, Idle, vars_after, said_after}
 use Rattle.answers.specs.Answers.{no_value, leaf_branches, not_apart, too_many, accepted, faultless, no_variable, no_node, numbered, declared, stated, same, value, listed}
 use Rattle.answers.specs.Runs.{asked, Has, Step}
 use Rattle.answers.proofs.Declaring.{joined_declared, no_clash_declared}
@@ -30,7 +30,7 @@ no_clash_accepted (accepted free few) = free
 
 -- a right answer leaves no clash where there was none
 pub no_clash_after : (m : Meaning) → Lawful m → (g : Graph) (kept : List Statement) (vars : ℕ) (said : List Statement) {c : Call} {a : Answer}
-    → Holds m g kept vars said → NoClash m vars said → Right m vars said c a → NoClash m (vars-after vars a) (said-after said c a)
+    → Holds m g kept vars said → NoClash m vars said → Right m vars said c a → NoClash m (vars_after vars a) (said_after said c a)
 no_clash_after m lawful g kept vars said holds free (declared (no_variable full)) = free
 no_clash_after m lawful g kept vars said holds free (declared (no_node room many)) = free
 no_clash_after m lawful g kept vars said holds free (declared (numbered room few)) = no_clash_declared m lawful g kept vars said holds free
@@ -52,7 +52,7 @@ module _ {S : Type 0} (graph : S → Graph) (kept : S → List Statement) (m : M
   -- a right answer, and what is said after it held: that is a step
   pub step_taken : Lawful m → (s t : S) (c : Call) (a : Answer)
       → ((vars : ℕ) (said : List Statement) → Has graph kept m s vars said → Right m vars said c a)
-      → ((vars : ℕ) (said : List Statement) → Has graph kept m s vars said → Holds m (graph t) (kept t) (vars-after vars a) (said-after said c a))
+      → ((vars : ℕ) (said : List Statement) → Has graph kept m s vars said → Holds m (graph t) (kept t) (vars_after vars a) (said_after said c a))
       → (Idle a → (graph t ≡ graph s) × (kept t ≡ kept s)) → Step graph kept m s (asked c a) t
   step_taken lawful s t c a right holds unaltered = record {
     right = right;

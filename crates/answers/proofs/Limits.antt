@@ -9,7 +9,7 @@ use Rattle.features.specs.Holding.{Holds, Listed, aparts_of}
 use Rattle.features.specs.Theorems.{NoClash}
 use Rattle.features.proofs.General.{held_model}
 use Rattle.features.proofs.TotalOrder.{Three, first, second, third, compare}
-use Rattle.answers.specs.Answers.{Call, Answer, Right, Stated, Nodes, vars-after, said-after}
+use Rattle.answers.specs.Answers.{Call, Answer, Right, Stated, Nodes, vars_after, said_after}
 use Rattle.answers.specs.Answers.{no_value, leaf_branches, not_apart, too_many, accepted, faultless, no_variable, no_node, numbered, declared, stated, same, value, listed}
 use Rattle.answers.proofs.Counting.{equally_many_nodes}
 use Rattle.answers.proofs.Keeping.{nothing_denotes}
@@ -29,7 +29,7 @@ bounded_at_first m g kept holds =
 
 -- a right answer keeps to the limits
 pub bounded_after : (m : Meaning) (vars : ℕ) (said : List Statement) {c : Call} {a : Answer}
-    → Bounded m vars said → Right m vars said c a → Bounded m (vars-after vars a) (said-after said c a)
+    → Bounded m vars said → Right m vars said c a → Bounded m (vars_after vars a) (said_after said c a)
 bounded_after m vars said b (declared (no_variable full)) = b
 bounded_after m vars said b (declared (no_node room many)) = b
 bounded_after m vars said b (declared (numbered room few)) = (omega arith, few)

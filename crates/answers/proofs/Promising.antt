@@ -13,7 +13,7 @@ use Rattle.features.proofs.General.{held_model, most_general}
 use Rattle.features.proofs.Unique.{one_listing}
 use Rattle.answers.specs.declared.refusal.Refusal.{Refusal}
 use Rattle.answers.specs.Refusals.{Clashes}
-use Rattle.answers.specs.Answers.{Call, state, list, states, lists, Right, Stated, Closed, fault, vars-after, said-after}
+use Rattle.answers.specs.Answers.{Call, state, list, states, lists, Right, Stated, Closed, fault, vars_after, said_after}
 use Rattle.answers.specs.Answers.{no_value, leaf_branches, not_apart, too_many, accepted, faultless, put, stated, listed}
 use Rattle.answers.specs.Runs.{Exchange, asked, vars_of, said_of, AllRight, Has, Step, Run, done, call, Promise}
 use Rattle.answers.proofs.Answering.{not_none, answers_are_unique}
@@ -62,7 +62,7 @@ same_answers m lawful vars said (e ∷ es) (f ∷ fs) (right, all) (right', all'
     let answered : e.answer ≡ f.answer = answers_are_unique m lawful vars said e.call e.answer f.answer right (subst (λ (z : Call). Right m vars said z f.answer) (sym called) right') in
     let one : f ≡ e = λ i. record { call = sym called i; answer = sym answered i } in
     let rest : map (λ e. e.call) es ≡ map (λ e. e.call) fs = cc in
-    let tails = same_answers m lawful (vars-after vars e.answer) (said-after said e.call e.answer) es fs all (subst (λ (z : Exchange). AllRight m (vars-after vars z.answer) (said-after said z.call z.answer) fs) one all') rest in
+    let tails = same_answers m lawful (vars_after vars e.answer) (said_after said e.call e.answer) es fs all (subst (λ (z : Exchange). AllRight m (vars_after vars z.answer) (said_after said z.call z.answer) fs) one all') rest in
     λ i. sym one i ∷ tails i
 
 module _ {S : Type 0} (graph : S → Graph) (kept : S → List Statement) (m : Meaning) where
@@ -70,16 +70,16 @@ module _ {S : Type 0} (graph : S → Graph) (kept : S → List Statement) (m : M
   run_right : {s t : S} {es : List Exchange} → Run graph kept m s es t → (vars : ℕ) (said : List Statement) → Has graph kept m s vars said → AllRight m vars said es
   run_right done vars said has = tt
   run_right (call {e = e} step run) vars said has =
-      (step.right vars said has, run_right run (vars-after vars e.answer) (said-after said e.call e.answer) (step.holds vars said has))
+      (step.right vars said has, run_right run (vars_after vars e.answer) (said_after said e.call e.answer) (step.holds vars said has))
 
   run_holds : {s t : S} {es : List Exchange} → Run graph kept m s es t → (vars : ℕ) (said : List Statement) → Has graph kept m s vars said → Has graph kept m t (vars_of vars es) (said_of said es)
   run_holds done vars said has = has
-  run_holds (call {e = e} step run) vars said has = run_holds run (vars-after vars e.answer) (said-after said e.call e.answer) (step.holds vars said has)
+  run_holds (call {e = e} step run) vars said has = run_holds run (vars_after vars e.answer) (said_after said e.call e.answer) (step.holds vars said has)
 
   run_bounded : {s t : S} {es : List Exchange} → Run graph kept m s es t → (vars : ℕ) (said : List Statement) → Has graph kept m s vars said → Bounded m vars said → Bounded m (vars_of vars es) (said_of said es)
   run_bounded done vars said has b = b
   run_bounded (call {e = e} step run) vars said has b =
-      run_bounded run (vars-after vars e.answer) (said-after said e.call e.answer) (step.holds vars said has) (bounded_after m vars said b (step.right vars said has))
+      run_bounded run (vars_after vars e.answer) (said_after said e.call e.answer) (step.holds vars said has) (bounded_after m vars said b (step.right vars said has))
 
 module _ {S : Type 0} (graph : S → Graph) (kept : S → List Statement) (m : Meaning) (lawful : Lawful m) (s : S) (has : Has graph kept m s 0 []) where
   at_end : (es : List Exchange) (t : S) → Run graph kept m s es t → Has graph kept m t (vars_of 0 es) (said_of [] es)

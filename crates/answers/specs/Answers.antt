@@ -19,39 +19,39 @@ first_of none b = b
 first_of (some r) b = some r
 
 -- the first attribute above 31, by its position
-abbrev pub above-31 : ℕ → ℕ → List ℕ → Option Refusal
-above-31 side at [] = none
-above-31 side at (a ∷ rest) = cond (nat_lt 31 a) (some (NoAttribute side at)) (above-31 side (suc at) rest)
+abbrev pub above_31 : ℕ → ℕ → List ℕ → Option Refusal
+above_31 side at [] = none
+above_31 side at (a ∷ rest) = cond (nat_lt 31 a) (some (NoAttribute side at)) (above_31 side (suc at) rest)
 
 -- what is wrong with one term, where anything is
-abbrev pub term-fault : ℕ → ℕ → Term → Option Refusal
-term-fault vars side t =
+abbrev pub term_fault : ℕ → ℕ → Term → Option Refusal
+term_fault vars side t =
     first_of (cond (nat_lt t.var vars) none (some (Undeclared side)))
-    (first_of (cond (nat_le (length t.path) 8) none (some (LongTerm side))) (above-31 side 0 t.path))
+    (first_of (cond (nat_le (length t.path) 8) none (some (LongTerm side))) (above_31 side 0 t.path))
 
 -- and with two, the left one first
-abbrev pub pair-fault : ℕ → Term → Term → Option Refusal
-pair-fault vars p q = first_of (term-fault vars 0 p) (term-fault vars 1 q)
+abbrev pub pair_fault : ℕ → Term → Term → Option Refusal
+pair_fault vars p q = first_of (term_fault vars 0 p) (term_fault vars 1 q)
 
-abbrev pub terms-fault : ℕ → Statement → Option Refusal
-terms-fault vars (equals p q) = pair-fault vars p q
-terms-fault vars (is p v) = term-fault vars 0 p
-terms-fault vars (apart p q) = pair-fault vars p q
+abbrev pub terms_fault : ℕ → Statement → Option Refusal
+terms_fault vars (equals p q) = pair_fault vars p q
+terms_fault vars (is p v) = term_fault vars 0 p
+terms_fault vars (apart p q) = pair_fault vars p q
 
-abbrev pub value-fault : Meaning → Statement → Option Refusal
-value-fault m (equals p q) = none
-value-fault m (is p v) = cond (m.value v) none (some NoSuchValue)
-value-fault m (apart p q) = none
+abbrev pub value_fault : Meaning → Statement → Option Refusal
+value_fault m (equals p q) = none
+value_fault m (is p v) = cond (m.value v) none (some NoSuchValue)
+value_fault m (apart p q) = none
 
-abbrev pub full-fault : List Statement → Statement → Option Refusal
-full-fault said (equals p q) = none
-full-fault said (is p v) = none
-full-fault said (apart p q) = cond (nat_lt (length (aparts_of said)) 128) none (some ApartsFull)
+abbrev pub full_fault : List Statement → Statement → Option Refusal
+full_fault said (equals p q) = none
+full_fault said (is p v) = none
+full_fault said (apart p q) = cond (nat_lt (length (aparts_of said)) 128) none (some ApartsFull)
 
 -- the first ground, apart from what closing shows, on which a statement is refused; `room` is the length of its trail
 abbrev pub fault : Meaning → ℕ → List Statement → Statement → ℕ → Option Refusal
 fault m vars said s room =
-    first_of (terms-fault vars s) (first_of (value-fault m s) (first_of (cond (nat_lt room 272) (some ShortTrail) none) (full-fault said s)))
+    first_of (terms_fault vars s) (first_of (value_fault m s) (first_of (cond (nat_lt room 272) (some ShortTrail) none) (full_fault said s)))
 
 -- no clash of the first sort, and none of the second
 abbrev pub EveryNodeValued : Meaning → ℕ → List Statement → Type 0
@@ -94,14 +94,14 @@ pub data Declared (m : Meaning) (vars : ℕ) (said : List Statement) : Result �
   numbered : vars < 64 → Nodes m (suc vars) said (λ n. n ≤ 256) → Declared m vars said (Ok vars)
 
 pub data Same (vars : ℕ) (said : List Statement) (p q : Term) : Result Bool Refusal → Type 0 where
-  faulty : {r : Refusal} → pair-fault vars p q ≡ some r → Same vars said p q (Err r)
-  one : pair-fault vars p q ≡ none → Joined vars said p q → Same vars said p q (Ok true)
-  not_one : pair-fault vars p q ≡ none → (Joined vars said p q → ⊥) → Same vars said p q (Ok false)
+  faulty : {r : Refusal} → pair_fault vars p q ≡ some r → Same vars said p q (Err r)
+  one : pair_fault vars p q ≡ none → Joined vars said p q → Same vars said p q (Ok true)
+  not_one : pair_fault vars p q ≡ none → (Joined vars said p q → ⊥) → Same vars said p q (Ok false)
 
 pub data Value (m : Meaning) (vars : ℕ) (said : List Statement) (p : Term) : Result (rust.Option ℕ) Refusal → Type 0 where
-  faulty : {r : Refusal} → term-fault vars 0 p ≡ some r → Value m vars said p (Err r)
-  valued : (v : ℕ) → term-fault vars 0 p ≡ none → Joined vars said p p → Valued m vars said p v → Value m vars said p (Ok (rust_option.Some v))
-  nothing : term-fault vars 0 p ≡ none → (Joined vars said p p → ⊥) → Value m vars said p (Ok rust_option.None)
+  faulty : {r : Refusal} → term_fault vars 0 p ≡ some r → Value m vars said p (Err r)
+  valued : (v : ℕ) → term_fault vars 0 p ≡ none → Joined vars said p p → Valued m vars said p v → Value m vars said p (Ok (rust_option.Some v))
+  nothing : term_fault vars 0 p ≡ none → (Joined vars said p p → ⊥) → Value m vars said p (Ok rust_option.None)
 
 pub data Listing (m : Meaning) (vars : ℕ) (said : List Statement) (before : List ℕ) : Result ℕ Refusal → List ℕ → Type 0 where
   short : (bytes : List ℕ) → Listed m vars said bytes → length before < length bytes → Listing m vars said before (Err (ShortBuffer (length bytes))) before
@@ -133,26 +133,26 @@ pub data Right (m : Meaning) (vars : ℕ) (said : List Statement) : Call → Ans
   listed : {before after : List ℕ} {r : Result ℕ Refusal} → Listing m vars said before r after → Right m vars said (list before) (lists r after)
 
 -- how many variables there are after a call
-abbrev pub vars-after : ℕ → Answer → ℕ
-vars-after vars (declares (Ok n)) = suc vars
-vars-after vars (declares (Err r)) = vars
-vars-after vars (states r after) = vars
-vars-after vars (says r) = vars
-vars-after vars (gives r) = vars
-vars-after vars (lists r after) = vars
+abbrev pub vars_after : ℕ → Answer → ℕ
+vars_after vars (declares (Ok n)) = suc vars
+vars_after vars (declares (Err r)) = vars
+vars_after vars (states r after) = vars
+vars_after vars (says r) = vars
+vars_after vars (gives r) = vars
+vars_after vars (lists r after) = vars
 
 -- and which statements are accepted: one more where the call states it and is not refused
-abbrev pub said-after : List Statement → Call → Answer → List Statement
-said-after said declare b = said
-said-after said (state s before) (states (Ok u) after) = said ++ (s ∷ [])
-said-after said (state s before) (states (Err r) after) = said
-said-after said (state s before) (declares r) = said
-said-after said (state s before) (says r) = said
-said-after said (state s before) (gives r) = said
-said-after said (state s before) (lists r after) = said
-said-after said (ask_same p q) b = said
-said-after said (ask_value p) b = said
-said-after said (list before) b = said
+abbrev pub said_after : List Statement → Call → Answer → List Statement
+said_after said declare b = said
+said_after said (state s before) (states (Ok u) after) = said ++ (s ∷ [])
+said_after said (state s before) (states (Err r) after) = said
+said_after said (state s before) (declares r) = said
+said_after said (state s before) (says r) = said
+said_after said (state s before) (gives r) = said
+said_after said (state s before) (lists r after) = said
+said_after said (ask_same p q) b = said
+said_after said (ask_value p) b = said
+said_after said (list before) b = said
 
 -- a question, a listing or a refusal, which leaves a session as it was
 abbrev pub Idle : Answer → Type 0

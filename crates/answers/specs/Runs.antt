@@ -9,7 +9,7 @@ use Rattle.features.specs.Order.{InOrder}
 use Rattle.features.specs.Bytes.{Written}
 use Rattle.features.specs.Theorems.{NoClash}
 use Rattle.answers.specs.Refusals.{Clashes}
-use Rattle.answers.specs.Answers.{Call, state, list, Answer, states, lists, Right, Idle, fault, vars-after, said-after}
+use Rattle.answers.specs.Answers.{Call, state, list, Answer, states, lists, Right, Idle, fault, vars_after, said_after}
 use Rattle.answers.specs.declared.refusal.Refusal.{Refusal}
 
 -- one call of a run: what was asked and what was answered
@@ -23,17 +23,17 @@ asked c a = record { call = c; answer = a }
 -- variables and accepted statements after a run
 abbrev pub vars_of : ℕ → List Exchange → ℕ
 vars_of vars [] = vars
-vars_of vars (e ∷ es) = vars_of (vars-after vars e.answer) es
+vars_of vars (e ∷ es) = vars_of (vars_after vars e.answer) es
 
 abbrev pub said_of : List Statement → List Exchange → List Statement
 said_of said [] = said
-said_of said (e ∷ es) = said_of (said-after said e.call e.answer) es
+said_of said (e ∷ es) = said_of (said_after said e.call e.answer) es
 
 -- every answer is the one laid down from the calls before it alone
 abbrev pub AllRight : Meaning → ℕ → List Statement → List Exchange → Type 0
 AllRight m vars said [] = Unit {0}
 AllRight m vars said (e ∷ es) =
-    Right m vars said e.call e.answer × AllRight m (vars-after vars e.answer) (said-after said e.call e.answer) es
+    Right m vars said e.call e.answer × AllRight m (vars_after vars e.answer) (said_after said e.call e.answer) es
 
 -- for what was said before and a call with what it is given, at most one answer with its buffer is right
 abbrev pub OneAnswer : Meaning → Type 0
@@ -48,7 +48,7 @@ module _ {S : Type 0} (graph : S → Graph) (kept : S → List Statement) where
   -- what a call promises that finds s and leaves t: its answer is right for whatever was said before, and t then holds what is said after
   pub record Step (m : Meaning) (s : S) (e : Exchange) (t : S) : Type 0 where
     pub right : (vars : ℕ) (said : List Statement) → Has m s vars said → Right m vars said e.call e.answer
-    pub holds : (vars : ℕ) (said : List Statement) → Has m s vars said → Has m t (vars-after vars e.answer) (said-after said e.call e.answer)
+    pub holds : (vars : ℕ) (said : List Statement) → Has m s vars said → Has m t (vars_after vars e.answer) (said_after said e.call e.answer)
     pub unaltered : Idle e.answer → (graph t ≡ graph s) × (kept t ≡ kept s)
 
   pub data Run (m : Meaning) : S → List Exchange → S → Type 0 where

@@ -5,7 +5,7 @@ use Rattle.features.specs.Terms.{Statement}
 use Rattle.features.specs.Graphs.{Graph}
 use Rattle.features.specs.Holding.{Holds}
 use Rattle.features.specs.Theorems.{NoClash}
-use Rattle.answers.specs.Answers.{Call, Answer, Right, vars-after, said-after}
+use Rattle.answers.specs.Answers.{Call, Answer, Right, vars_after, said_after}
 use Rattle.answers.specs.Runs.{OneAnswer, Promise}
 
 -- Two graphs that hold the same statements have equally many nodes.
@@ -24,7 +24,7 @@ DeclaringNeverClashes =
 abbrev pub RightAnswersNeverClash : Type 0
 RightAnswersNeverClash =
     (m : Meaning) → Lawful m → (g : Graph) (kept : List Statement) (vars : ℕ) (said : List Statement) (c : Call) (a : Answer) →
-    Holds m g kept vars said → NoClash m vars said → Right m vars said c a → NoClash m (vars-after vars a) (said-after said c a)
+    Holds m g kept vars said → NoClash m vars said → Right m vars said c a → NoClash m (vars_after vars a) (said_after said c a)
 
 -- Every call has at most one right answer.
 abbrev pub AnswersAreUnique : Type 0

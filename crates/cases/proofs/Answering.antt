@@ -18,7 +18,7 @@ use Rattle.growth.specs.Standing.{Shape, Judged, greatest, void}
 use Rattle.growth.proofs.Holding.{standing_holds}
 use Rattle.answers.specs.declared.refusal.Refusal.{Refusal}
 use Rattle.answers.specs.declared.refusal.Refusal.TheVariants.{ShortTrail}
-use Rattle.answers.specs.Answers.{first_of, above-31, term-fault, terms-fault, value-fault, full-fault, fault, EveryNodeValued, EveryLeafBare, Nodes, Closed, declare, state, declares, states, Right}
+use Rattle.answers.specs.Answers.{first_of, above_31, term_fault, terms_fault, value_fault, full_fault, fault, EveryNodeValued, EveryLeafBare, Nodes, Closed, declare, state, declares, states, Right}
 use Rattle.answers.specs.Answers.{accepted, faultless, numbered, declared, stated}
 use Rattle.cases.proofs.Reaching.{reach, denotes_reach, reach_denotes}
 use Rattle.cases.proofs.Drawings.{Drawing, drawn, state_at, or_zero, Along, along_at, all_member, arrow_at, one_node, Certified, certified_shape, certified_stands}
@@ -40,11 +40,11 @@ test_failed : (b : Bool) (r : Refusal) (o : Option Refusal) → cond b (some r) 
 test_failed true r o e = absurd (let z : ◌≡◌ {A = ℕ} 0 1 = cc in omega arith)
 test_failed false r o e = (refl, e)
 
-small : (side at : ℕ) (xs : List ℕ) → above-31 side at xs ≡ none → Small xs
+small : (side at : ℕ) (xs : List ℕ) → above_31 side at xs ≡ none → Small xs
 small side at [] e = end
-small side at (a ∷ rest) e = let p = test_failed (ltb 31 a) _ (above-31 side (suc at) rest) e in also (omega (arith, ltb-false 31 a p.0)) (small side (suc at) rest p.1)
+small side at (a ∷ rest) e = let p = test_failed (ltb 31 a) _ (above_31 side (suc at) rest) e in also (omega (arith, ltb-false 31 a p.0)) (small side (suc at) rest p.1)
 
-sound : (vars side : ℕ) (t : Term) → term-fault vars side t ≡ none → Sound vars t
+sound : (vars side : ℕ) (t : Term) → term_fault vars side t ≡ none → Sound vars t
 sound vars side t e =
     let p = none_each _ _ e in
     let q = none_each _ _ p.1 in
@@ -56,16 +56,16 @@ sound vars side t e =
 
 -- what is wrong with the terms and the value of a statement
 abbrev pub own_fault : Meaning → ℕ → Statement → Option Refusal
-own_fault m vars s = first_of (terms-fault vars s) (value-fault m s)
+own_fault m vars s = first_of (terms_fault vars s) (value_fault m s)
 
 proper : (m : Meaning) (vars : ℕ) (s : Statement) → own_fault m vars s ≡ none → Proper m vars s
 proper m vars (equals p q) e = let f = none_each _ _ (none_each _ _ e).0 in (sound vars 0 p f.0, sound vars 1 q f.1)
 proper m vars (is p v) e = let f = none_each _ _ e in (sound vars 0 p f.0, test_passed (m.value v) _ f.1)
 proper m vars (apart p q) e = let f = none_each _ _ (none_each _ _ e).0 in (sound vars 0 p f.0, sound vars 1 q f.1)
 
-not_faulty : (m : Meaning) (vars : ℕ) (said : List Statement) (s : Statement) (room : ℕ) → 272 ≤ room → own_fault m vars s ≡ none → full-fault said s ≡ none → fault m vars said s room ≡ none
+not_faulty : (m : Meaning) (vars : ℕ) (said : List Statement) (s : Statement) (room : ℕ) → 272 ≤ room → own_fault m vars s ≡ none → full_fault said s ≡ none → fault m vars said s room ≡ none
 not_faulty m vars said s room enough own full =
-    let f = none_each (terms-fault vars s) (value-fault m s) own in
+    let f = none_each (terms_fault vars s) (value_fault m s) own in
     none_of _ _ f.0 (none_of _ _ f.1 (none_of _ _ (ap (λ (b : Bool). cond b (some ShortTrail) none) (le-ltb room 272 enough)) full))
 
 abbrev pub there : Option ℕ → Bool
@@ -172,13 +172,13 @@ declared_right lawful lt c = declared (numbered lt (consistent_nodes lawful c))
 
 -- a statement more that has no fault: what closing shows
 pub closed_right : {m : Meaning} {vars : ℕ} {said : List Statement} {s : Statement} {room after : List ℕ} {r : Result (Unit {0}) Refusal}
-    → 272 ≤ length room → own_fault m vars s ≡ none → full-fault said s ≡ none → Closed m vars (said ++ (s ∷ [])) room r after
+    → 272 ≤ length room → own_fault m vars s ≡ none → full_fault said s ≡ none → Closed m vars (said ++ (s ∷ [])) room r after
     → Right m vars said (state s room) (states r after)
 closed_right {m} {vars} {said} {s} {room} enough own full closed = stated (faultless (not_faulty m vars said s (length room) enough own full) closed)
 
 -- and where it is accepted
 pub accepted_right : {m : Meaning} {vars : ℕ} {said : List Statement} {s : Statement} {d : Drawing} {names : List Term} {room : List ℕ}
-    → Lawful m → 272 ≤ length room → own_fault m vars s ≡ none → full-fault said s ≡ none → Consistent m vars (said ++ (s ∷ [])) d names
+    → Lawful m → 272 ≤ length room → own_fault m vars s ≡ none → full_fault said s ≡ none → Consistent m vars (said ++ (s ∷ [])) d names
     → Right m vars said (state s room) (states (Ok tt) room)
 accepted_right lawful enough own full c = closed_right enough own full (accepted (consistent_no_clash lawful c) (consistent_nodes lawful c))
 

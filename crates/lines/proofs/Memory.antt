@@ -12,7 +12,7 @@ use Rattle.features.specs.Listing.{written}
 use Rattle.features.specs.Terms as terms
 use Rattle.features.proofs.Bytes.{attributes_bound, count_bound, listing_length}
 use Rattle.answers.specs.Answers as answers
-use Rattle.answers.specs.Answers.{first_of, above-31, term-fault, pair-fault, terms-fault, value-fault, full-fault, fault, Right}
+use Rattle.answers.specs.Answers.{first_of, above_31, term_fault, pair_fault, terms_fault, value_fault, full_fault, fault, Right}
 use Rattle.answers.specs.Runs.{Has}
 use Rattle.answers.specs.declared.refusal.Refusal.{Refusal}
 use Rattle.answers.specs.declared.refusal.Refusal.TheVariants.{Undeclared, LongTerm, NoAttribute, NoSuchValue, ShortTrail, ApartsFull}
@@ -33,33 +33,33 @@ cond_roomy : (b : Bool) (x y : Option Refusal) → Roomy x → Roomy y → Roomy
 cond_roomy true x y p q = p
 cond_roomy false x y p q = q
 
-above_roomy : (side at : ℕ) (path : List ℕ) → Roomy (above-31 side at path)
+above_roomy : (side at : ℕ) (path : List ℕ) → Roomy (above_31 side at path)
 above_roomy side at [] = tt
-above_roomy side at (a ∷ rest) = cond_roomy (ltb 31 a) (some (NoAttribute side at)) (above-31 side (suc at) rest) tt (above_roomy side (suc at) rest)
+above_roomy side at (a ∷ rest) = cond_roomy (ltb 31 a) (some (NoAttribute side at)) (above_31 side (suc at) rest) tt (above_roomy side (suc at) rest)
 
 module _ (vars : ℕ) where
-  term_roomy : (side : ℕ) (t : terms.Term) → Roomy (term-fault vars side t)
+  term_roomy : (side : ℕ) (t : terms.Term) → Roomy (term_fault vars side t)
   term_roomy side t =
       let long : Option Refusal = cond (leb (length t.path) 8) none (some (LongTerm side)) in
-      first_roomy (cond (ltb t.var vars) none (some (Undeclared side))) (first_of long (above-31 side 0 t.path))
+      first_roomy (cond (ltb t.var vars) none (some (Undeclared side))) (first_of long (above_31 side 0 t.path))
       (cond_roomy (ltb t.var vars) none (some (Undeclared side)) tt tt)
-      (first_roomy long (above-31 side 0 t.path) (cond_roomy (leb (length t.path) 8) none (some (LongTerm side)) tt tt) (above_roomy side 0 t.path))
+      (first_roomy long (above_31 side 0 t.path) (cond_roomy (leb (length t.path) 8) none (some (LongTerm side)) tt tt) (above_roomy side 0 t.path))
 
-  pair_roomy : (p q : terms.Term) → Roomy (pair-fault vars p q)
-  pair_roomy p q = first_roomy (term-fault vars 0 p) (term-fault vars 1 q) (term_roomy 0 p) (term_roomy 1 q)
+  pair_roomy : (p q : terms.Term) → Roomy (pair_fault vars p q)
+  pair_roomy p q = first_roomy (term_fault vars 0 p) (term_fault vars 1 q) (term_roomy 0 p) (term_roomy 1 q)
 
-  terms_roomy : (s : terms.Statement) → Roomy (terms-fault vars s)
+  terms_roomy : (s : terms.Statement) → Roomy (terms_fault vars s)
   terms_roomy (terms.equals p q) = pair_roomy p q
   terms_roomy (terms.is p v) = term_roomy 0 p
   terms_roomy (terms.apart p q) = pair_roomy p q
 
   module _ (m : Meaning) (said : List terms.Statement) where
-    value_roomy : (s : terms.Statement) → Roomy (value-fault m s)
+    value_roomy : (s : terms.Statement) → Roomy (value_fault m s)
     value_roomy (terms.equals p q) = tt
     value_roomy (terms.is p v) = cond_roomy (m.value v) none (some NoSuchValue) tt tt
     value_roomy (terms.apart p q) = tt
 
-    full_roomy : (s : terms.Statement) → Roomy (full-fault said s)
+    full_roomy : (s : terms.Statement) → Roomy (full_fault said s)
     full_roomy (terms.equals p q) = tt
     full_roomy (terms.is p v) = tt
     full_roomy (terms.apart p q) = cond_roomy (ltb (length (aparts_of said)) 128) none (some ApartsFull) tt tt
@@ -70,8 +70,8 @@ module _ (vars : ℕ) where
     fault_roomy : (s : terms.Statement) (room : ℕ) → 272 ≤ room → Roomy (fault m vars said s room)
     fault_roomy s room l =
         let trail : Option Refusal = cond (ltb room 272) (some ShortTrail) none in
-        first_roomy (terms-fault vars s) (first_of (value-fault m s) (first_of trail (full-fault said s))) (terms_roomy s)
-        (first_roomy (value-fault m s) (first_of trail (full-fault said s)) (value_roomy s) (first_roomy trail (full-fault said s) (trail_roomy room l) (full_roomy s)))
+        first_roomy (terms_fault vars s) (first_of (value_fault m s) (first_of trail (full_fault said s))) (terms_roomy s)
+        (first_roomy (value_fault m s) (first_of trail (full_fault said s)) (value_roomy s) (first_roomy trail (full_fault said s) (trail_roomy room l) (full_roomy s)))
 
     closed_roomy : {before after : List ℕ} {r : Result (Unit {0}) Refusal} → answers.Closed m vars said before r after → Roomy (error r)
     closed_roomy (answers.no_value t f) = tt

@@ -16,7 +16,7 @@ use Rattle.growth.proofs.Holding.{holding_stands, accepted_holds}
 use Rattle.growth.proofs.Naming.{names_broken}
 use Rattle.answers.specs.declared.refusal.Refusal.{Refusal}
 use Rattle.answers.specs.declared.refusal.Refusal.TheVariants.{ShortTrail, ApartsFull, ApartClash}
-use Rattle.answers.specs.Answers.{pair-fault, fault, Closed, not_apart, accepted, Stated, faultless, stated, state, states}
+use Rattle.answers.specs.Answers.{pair_fault, fault, Closed, not_apart, accepted, Stated, faultless, stated, state, states}
 use Rattle.answers.specs.Runs.{asked, Has, Step}
 use Rattle.answers.proofs.Keeping.{step_taken}
 use Rattle.session.proofs.Faults.{faultless_pair, apart_terms, apart_short_trail, aparts_full, apart_faultless}
@@ -89,14 +89,14 @@ module _ {S : Type 0} (graph : S → Graph) (kept : S → List Statement) (m : M
       step_taken graph kept m lawful s s (state st before) (states (Err r) after) (λ vars said has. stated (right vars said has)) (λ vars said has. has.holds) (λ _. (refl, refl))
 
   module _ (p q : Term) (trail : List ℕ) where
-    pub apart_refused : (r : Refusal) → pair-fault (graph s).vars p q ≡ some r → Step graph kept m s (asked (state (apart p q) trail) (states (Err r) trail)) s
+    pub apart_refused : (r : Refusal) → pair_fault (graph s).vars p q ≡ some r → Step graph kept m s (asked (state (apart p q) trail) (states (Err r) trail)) s
     apart_refused r e =
         statement_refused (apart p q) trail trail r
-        (λ vars said has. Stated.faulty (apart_terms m vars said p q (length trail) (some r) (subst (λ (n : ℕ). pair-fault n p q ≡ some r) has.holds.all e)))
+        (λ vars said has. Stated.faulty (apart_terms m vars said p q (length trail) (some r) (subst (λ (n : ℕ). pair_fault n p q ≡ some r) has.holds.all e)))
 
-    module _ (terms : pair-fault (graph s).vars p q ≡ none) where
-      as_declared : (vars : ℕ) (said : List Statement) → Has graph kept m s vars said → pair-fault vars p q ≡ none
-      as_declared vars said has = subst (λ (n : ℕ). pair-fault n p q ≡ none) has.holds.all terms
+    module _ (terms : pair_fault (graph s).vars p q ≡ none) where
+      as_declared : (vars : ℕ) (said : List Statement) → Has graph kept m s vars said → pair_fault vars p q ≡ none
+      as_declared vars said has = subst (λ (n : ℕ). pair_fault n p q ≡ none) has.holds.all terms
 
       pub trail_refused : length trail < 272 → Step graph kept m s (asked (state (apart p q) trail) (states (Err ShortTrail) trail)) s
       trail_refused l =

@@ -1,6 +1,6 @@
 use Rattle.std.proofs.Common.{◌+◌, ap, ◌∙◌}
 use Rattle.std.proofs.lemmas.List.{drop_all}
-use Rattle.answers.specs.Answers.{above-31}
+use Rattle.answers.specs.Answers.{above_31}
 use Rattle.session.proofs.Faults.{above_none, above_more, above_here}
 use Rattle.session.proofs.checks.first_above.Goals as goal
 
@@ -17,4 +17,4 @@ returns-then-a-gt-LAST c =
     (l, λ side at. c.loop-i.invariant side at ∙ above_here side at c.args.path.now c.loop-i.i l c.if-a-gt-LAST.true)
 
 pub returns : goal.returns
-returns c side at = c.loop-i.invariant side at ∙ ap (above-31 side (at + c.loop-i.i)) (drop_all c.loop-i.i c.args.path.now c.loop-i-test.false)
+returns c side at = c.loop-i.invariant side at ∙ ap (above_31 side (at + c.loop-i.i)) (drop_all c.loop-i.i c.args.path.now c.loop-i-test.false)

@@ -3,7 +3,7 @@ use mathlib.Core.Option.{some, none}
 use Rattle.std.proofs.lemmas.Result.{err_from_is_err_and}
 use Rattle.features.specs.Terms.{Statement, equals}
 use Rattle.features.specs.Holding.{Holds}
-use Rattle.answers.specs.Answers.{pair-fault, fault, Stated}
+use Rattle.answers.specs.Answers.{pair_fault, fault, Stated}
 use Rattle.tables.specs.declared.table.Table.{Table}
 use Rattle.tables.specs.Views as tables
 use Rattle.tables.proofs.Known.{sound_known}
@@ -24,7 +24,7 @@ returns-in_err-check_pair g c =
     let e = err_from_is_err_and c.from_residual.result c.from_residual.ensures.1 in
     record {
       step = rw (e.1, e.2) (refused_leaving graph kept m (g.met.K.Kind.lawful s.kind) s s refl refl (equals p q) c.args.trail.now c.args.trail.now c.in_err-check_pair.field-0.0
-          (λ vars said has. Stated.faulty (equation_terms m vars said room p q (some c.in_err-check_pair.field-0.0) (subst (λ (n : ℕ). pair-fault n p q ≡ some c.in_err-check_pair.field-0.0) has.holds.all c.in_err-check_pair.ensures))));
+          (λ vars said has. Stated.faulty (equation_terms m vars said room p q (some c.in_err-check_pair.field-0.0) (subst (λ (n : ℕ). pair_fault n p q ≡ some c.in_err-check_pair.field-0.0) has.holds.all c.in_err-check_pair.ensures))));
       kind = refl;
     }
 
@@ -37,7 +37,7 @@ returns-then-trail-lt-CAPACITY g c =
     let room : ℕ = length c.args.trail.now in
     record {
       step = refused_leaving graph kept m (g.met.K.Kind.lawful s.kind) s s refl refl (equals p q) c.args.trail.now c.args.trail.now _
-          (λ vars said has. Stated.faulty (equation_terms m vars said room p q none (subst (λ (n : ℕ). pair-fault n p q ≡ none) has.holds.all c.in_ok-check_pair.ensures) ∙ short_trail m vars said room c.if-trail-lt-CAPACITY.true));
+          (λ vars said has. Stated.faulty (equation_terms m vars said room p q none (subst (λ (n : ℕ). pair_fault n p q ≡ none) has.holds.all c.in_ok-check_pair.ensures) ∙ short_trail m vars said room c.if-trail-lt-CAPACITY.true));
       kind = refl;
     }
 

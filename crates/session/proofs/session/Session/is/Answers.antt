@@ -4,7 +4,7 @@ use Rattle.std.proofs.lemmas.Result.{err_from_is_err_and}
 use Rattle.features.specs.Terms.{Statement, is}
 use Rattle.features.specs.Holding.{Holds}
 use Rattle.answers.specs.declared.refusal.Refusal.TheVariants.{NoSuchValue, ShortTrail}
-use Rattle.answers.specs.Answers.{term-fault, fault, Stated}
+use Rattle.answers.specs.Answers.{term_fault, fault, Stated}
 use Rattle.tables.specs.declared.table.Table.{Table}
 use Rattle.tables.specs.Views as tables
 use Rattle.tables.proofs.Known.{sound_known}
@@ -25,7 +25,7 @@ returns-in_err-check g c =
     let e = err_from_is_err_and c.from_residual.result c.from_residual.ensures.1 in
     record {
       step = rw (e.1, e.2) (refused_leaving graph kept m (g.met.K.Kind.lawful s.kind) s s refl refl (is p c.args.value) c.args.trail.now c.args.trail.now r
-          (λ vars said has. Stated.faulty (value_terms m vars said room p c.args.value (some r) (subst (λ (n : ℕ). term-fault n 0 p ≡ some r) has.holds.all c.in_err-check.ensures))));
+          (λ vars said has. Stated.faulty (value_terms m vars said room p c.args.value (some r) (subst (λ (n : ℕ). term_fault n 0 p ≡ some r) has.holds.all c.in_err-check.ensures))));
       kind = refl;
     }
 
@@ -37,7 +37,7 @@ returns-then-not-is_value g c =
     let room : ℕ = length c.args.trail.now in
     record {
       step = refused_leaving graph kept m (g.met.K.Kind.lawful s.kind) s s refl refl (is p c.args.value) c.args.trail.now c.args.trail.now NoSuchValue
-          (λ vars said has. Stated.faulty (no_value_there m vars said room p c.args.value (subst (λ (n : ℕ). term-fault n 0 p ≡ none) has.holds.all c.in_ok-check.ensures) (sym c.is_value.ensures ∙ c.if-not-is_value.true)));
+          (λ vars said has. Stated.faulty (no_value_there m vars said room p c.args.value (subst (λ (n : ℕ). term_fault n 0 p ≡ none) has.holds.all c.in_ok-check.ensures) (sym c.is_value.ensures ∙ c.if-not-is_value.true)));
       kind = refl;
     }
 
@@ -49,7 +49,7 @@ returns-then-trail-lt-CAPACITY g c =
     let room : ℕ = length c.args.trail.now in
     record {
       step = refused_leaving graph kept m (g.met.K.Kind.lawful s.kind) s s refl refl (is p c.args.value) c.args.trail.now c.args.trail.now ShortTrail
-          (λ vars said has. Stated.faulty (value_there m vars said room p c.args.value (some ShortTrail) (subst (λ (n : ℕ). term-fault n 0 p ≡ none) has.holds.all c.in_ok-check.ensures) (sym c.is_value.ensures ∙ c.if-not-is_value.false) (short_trail m vars said room c.if-trail-lt-CAPACITY.true)));
+          (λ vars said has. Stated.faulty (value_there m vars said room p c.args.value (some ShortTrail) (subst (λ (n : ℕ). term_fault n 0 p ≡ none) has.holds.all c.in_ok-check.ensures) (sym c.is_value.ensures ∙ c.if-not-is_value.false) (short_trail m vars said room c.if-trail-lt-CAPACITY.true)));
       kind = refl;
     }
 
