@@ -5,7 +5,9 @@ use lib.Seq.{take-append_seam}
 use Rattle.kinds.specs.Meaning.{Meaning, Lawful}
 use Rattle.features.specs.Terms.{Statement, SameMembers}
 use Rattle.features.specs.Graphs.{Graph, Model, OneMap}
-use Rattle.features.specs.Holding.{Listed, aparts_of}
+use Rattle.features.specs.Order.{InOrder}
+use Rattle.features.specs.Holding.{Holds, Listed, aparts_of}
+use Rattle.features.specs.Bytes.{Written}
 use Rattle.features.specs.Theorems as features
 use Rattle.features.proofs.Closure.{apart_said, broken_is}
 use Rattle.features.proofs.Clashing.{no_clash}
@@ -113,9 +115,13 @@ module _ {S : Type 0} (graph : S → Graph) (kept : S → List Statement) (m : M
     satisfies = λ es t run. (general es t run).0;
     one_map = λ es t run. (general es t run).1;
     lists_said = λ es t run before after n u step. (put_there (step.right (vars_of 0 es) (said_of [] es) (at_end es t run))).0;
-    lists_readable = λ es t run before after n u step.
-        let end = at_end es t run in
-        let bounded = run_bounded graph kept m run 0 [] has (bounded_at_first m (graph s) (kept s) has.holds) in
-        readable m lawful (vars_of 0 es) (said_of [] es) end.no_clash bounded (put_there (step.right (vars_of 0 es) (said_of [] es) end)).0;
     one_listing = one_listing_of_both;
   }
+
+  pub listed_can_be_read : (es : List Exchange) (t : S) → Run graph kept m s es t → (before after : List ℕ) (n : ℕ) (u : S)
+      → Step graph kept m t (asked (list before) (lists (Ok n) after)) u
+      → (g : Graph) × Written m (take n after) g × InOrder g × Holds m g (aparts_of (said_of [] es)) (vars_of 0 es) (said_of [] es)
+  listed_can_be_read es t run before after n u step =
+      let end = at_end es t run in
+      let bounded = run_bounded graph kept m run 0 [] has (bounded_at_first m (graph s) (kept s) has.holds) in
+      readable m lawful (vars_of 0 es) (said_of [] es) end.no_clash bounded (put_there (step.right (vars_of 0 es) (said_of [] es) end)).0

@@ -4,9 +4,7 @@ use Rattle.std.proofs.Math.Option.{none}
 use Rattle.kinds.specs.Meaning.{Meaning}
 use Rattle.features.specs.Terms.{Statement, SameMembers}
 use Rattle.features.specs.Graphs.{Graph, Model, OneMap}
-use Rattle.features.specs.Holding.{Holds, Listed, aparts_of}
-use Rattle.features.specs.Order.{InOrder}
-use Rattle.features.specs.Bytes.{Written}
+use Rattle.features.specs.Holding.{Holds, Listed}
 use Rattle.features.specs.Theorems.{NoClash}
 use Rattle.answers.specs.Refusals.{Clashes}
 use Rattle.answers.specs.Answers.{Call, state, list, Answer, states, lists, Right, Idle, fault, vars_after, said_after}
@@ -76,10 +74,6 @@ module _ {S : Type 0} (graph : S → Graph) (kept : S → List Statement) where
     -- what is listed is the listing of what was said
     pub lists_said : (es : List Exchange) (t : S) → Run m s es t → (before after : List ℕ) (n : ℕ) (u : S)
         → Step m t (asked (list before) (lists (Ok n) after)) u → Listed m (vars_of 0 es) (said_of [] es) (take n after)
-    -- and it can be read back: its graph is a feature graph within the limits, in listing order, that holds what was said
-    pub lists_readable : (es : List Exchange) (t : S) → Run m s es t → (before after : List ℕ) (n : ℕ) (u : S)
-        → Step m t (asked (list before) (lists (Ok n) after)) u
-        → (g : Graph) × Written m (take n after) g × InOrder g × Holds m g (aparts_of (said_of [] es)) (vars_of 0 es) (said_of [] es)
     -- another session with as many variables and the same set of statements lists the same, whatever the order and the buffers
     pub one_listing : (s' : S) → Has m s' 0 [] → (es es' : List Exchange) (t t' : S) → Run m s es t → Run m s' es' t'
         → vars_of 0 es ≡ vars_of 0 es' → SameMembers (said_of [] es) (said_of [] es')

@@ -1,12 +1,14 @@
 -- What is proved of answers and of runs.
-use Rattle.std.specs.Prelude.{◌≡◌, ℕ, suc, List, []}
+use Rattle.std.specs.Prelude.{◌≡◌, ℕ, suc, List, [], take, Ok}
 use Rattle.kinds.specs.Meaning.{Meaning, Lawful}
 use Rattle.features.specs.Terms.{Statement}
 use Rattle.features.specs.Graphs.{Graph}
-use Rattle.features.specs.Holding.{Holds}
+use Rattle.features.specs.Order.{InOrder}
+use Rattle.features.specs.Holding.{Holds, aparts_of}
+use Rattle.features.specs.Bytes.{Written}
 use Rattle.features.specs.Theorems.{NoClash}
-use Rattle.answers.specs.Answers.{Call, Answer, Right, vars_after, said_after}
-use Rattle.answers.specs.Runs.{OneAnswer, Promise}
+use Rattle.answers.specs.Answers.{Call, Answer, list, lists, Right, vars_after, said_after}
+use Rattle.answers.specs.Runs.{Exchange, asked, vars_of, said_of, OneAnswer, Step, Run, Promise}
 
 -- Two graphs that hold the same statements have equally many nodes.
 abbrev pub EquallyManyNodes : Type 0
@@ -41,3 +43,11 @@ abbrev pub EveryRunKeepsItsPromise : Type 0
 EveryRunKeepsItsPromise =
     (m : Meaning) → Lawful m → (s : Held) →
     Holds m s.graph s.kept 0 [] → Promise (λ h. h.graph) (λ h. h.kept) m s
+
+-- What is listed after a run can be read back: its bytes are those of a feature graph within the limits, in listing order, that holds what was said.
+abbrev pub ListedCanBeRead : Type 0
+ListedCanBeRead =
+    (m : Meaning) → Lawful m → (s t u : Held) (es : List Exchange) (before after : List ℕ) (n : ℕ) →
+    Holds m s.graph s.kept 0 [] → Run (λ h. h.graph) (λ h. h.kept) m s es t →
+    Step (λ h. h.graph) (λ h. h.kept) m t (asked (list before) (lists (Ok n) after)) u →
+    (g : Graph) × Written m (take n after) g × InOrder g × Holds m g (aparts_of (said_of [] es)) (vars_of 0 es) (said_of [] es)

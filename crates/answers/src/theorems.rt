@@ -1,5 +1,5 @@
 // One function for each theorem about answers and runs. The contract is the theorem; the functions do nothing else.
-ghost use Rattle.answers.specs.Theorems.{EquallyManyNodes, DeclaringNeverClashes, RightAnswersNeverClash, AnswersAreUnique, EveryRunKeepsItsPromise};
+ghost use Rattle.answers.specs.Theorems.{EquallyManyNodes, DeclaringNeverClashes, RightAnswersNeverClash, AnswersAreUnique, EveryRunKeepsItsPromise, ListedCanBeRead};
 
 // Two graphs that hold the same statements have equally many nodes.
 pub fn equally_many_nodes() -> u8
@@ -32,6 +32,13 @@ pub fn answers_are_unique() -> u8
 // Calls that each keep their own promise keep that of whole runs.
 pub fn every_run_keeps_its_promise() -> u8
     ensures { EveryRunKeepsItsPromise }
+{
+    0
+}
+
+// What is listed after a run can be read back, as a graph that holds what was said.
+pub fn listed_can_be_read() -> u8
+    ensures { ListedCanBeRead }
 {
     0
 }
