@@ -1,5 +1,5 @@
 -- Atoms keep the laws of a kind; what the values said in the table meet in.
-use Rattle.std.proofs.Common.{◌≡◌, ℕ, ◌^◌, ◌<◌, true, ◌||◌, eqb, ltb, ◌⊎◌, [], ◌∷◌, sym, refl, ap, ◌∙◌, subst, inl, inr, arith, lit<}
+use Rattle.std.proofs.Common.{◌≡◌, ℕ, ◌^◌, true, ◌||◌, eqb, ltb, ◌⊎◌, [], ◌∷◌, sym, refl, ap, ◌∙◌, subst, inl, inr, arith, lit<}
 use Rattle.std.proofs.lemmas.Bool.{and_parts, and_from, or_cases, or_left, or_right, ltb-true, eqb-true, eq-eqb}
 use Rattle.kinds.specs.Meaning.{Meaning, Lawful, Both, Greatest, GreatestOfAll}
 use Rattle.kinds.specs.Meets.{Apart}

@@ -1,12 +1,11 @@
 -- What follows for a line from what comes of it.
-use Rattle.std.proofs.Common.{◌≡◌, ℕ, ◌<◌, ◌≤◌, ◌⊎◌, List, length, take, Ok, Err, Result, sym, ap, subst, inl, inr, arith, length-take}
+use Rattle.std.proofs.Common.{◌≡◌, ℕ, ◌<◌, ◌≤◌, List, length, take, Err, Result, subst, inl, inr, arith, length-take}
 use Rattle.std.proofs.lemmas.List.{take_all}
 use Rattle.std.proofs.lemmas.Bool.{cases_lt}
 use Rattle.notation.specs.Reads.{Reads}
 use Rattle.notation.specs.declared.malformed.Malformed.{Malformed}
 use Rattle.notation.specs.declared.malformed.Malformed.TheVariants.{TooLong, Unfit}
 use Rattle.listings.specs.Buffers.{Fitted}
-use Rattle.printing.specs.Outcomes.{size}
 use Rattle.printing.specs.declared.outcome.RefusedLine.{RefusedLine}
 use Rattle.lines.specs.Responses.{Responds, short, unread, answered}
 use Rattle.lines.specs.Theorems.{FirstBytesSuffice}

@@ -1,11 +1,10 @@
 -- What comes of one line.
-use Rattle.std.specs.Prelude.{◌≡◌, ℕ, ◌<◌, ◌≤◌, List, length, Ok, Err, vec_items, Result}
+use Rattle.std.specs.Prelude.{◌≡◌, ℕ, ◌<◌, ◌≤◌, List, length, Err, vec_items, Result}
 use Rattle.std.proofs.Math.Option.{some}
 use Rattle.kinds.specs.Atoms.{atoms}
 use Rattle.features.specs.Terms as terms
 use Rattle.answers.specs.Answers as answers
 use Rattle.answers.specs.Runs.{Step, asked}
-use Rattle.answers.specs.declared.refusal.Refusal.{Refusal}
 use Rattle.answers.specs.declared.refusal.Refusal.TheVariants.{ShortBuffer}
 use Rattle.notation.specs.Notation.{Command, declare, equals, is, apart, same, value, list, Writes}
 use Rattle.notation.specs.Reads.{Reads}

@@ -1,9 +1,9 @@
 -- The machine comes from the start to each reading by just the reading's text, and over each line to the line's command.
-use Rattle.std.proofs.Common.{◌≡◌, ℕ, ◌+◌, ◌*◌, ◌/◌, ◌%◌, ◌^◌, ◌<◌, ◌≤◌, List, [], ◌∷◌, ◌++◌, Some, None, decimal, Option, sym, refl, ap, ◌∙◌, subst, append_assoc, append-nil, arith}
+use Rattle.std.proofs.Common.{◌≡◌, ℕ, ◌+◌, ◌*◌, ◌/◌, ◌%◌, ◌^◌, ◌<◌, ◌≤◌, List, [], ◌∷◌, ◌++◌, Some, None, decimal, Option, sym, refl, ap, ◌∙◌, append_assoc, append-nil, arith}
 use Rattle.std.specs.Option.{option_map}
 use Rattle.std.specs.List.{AllByRecursion as All}
 use Rattle.std.proofs.lemmas.Fmt.{decimal_by_steps}
-use Rattle.features.specs.Terms.{Term, ◌▸◌}
+use Rattle.features.specs.Terms.{Term}
 use Rattle.notation.specs.Notation.{Command, declare, equals, is, apart, same, value, list, space, point, written, written_path, written_term, Sized, InRange, Writes, OneCommand}
 use Rattle.notation.specs.Readings.{Operand, alone, before_value, left, right, Reading, start, named, within_term, within_value, closed, text, operand_text, stem_text, number_text, Below, SizedStem, SizedOperand, Ranged, related}
 use Rattle.notation.specs.declared.class.Relation.{Relation}

@@ -5,15 +5,15 @@ use Rattle.std.specs.List.{AllByRecursion as All}
 use Rattle.std.proofs.lemmas.Fmt.{decimal_digit, decimal_step, decimal_nonempty}
 use Rattle.std.proofs.ByRecursion.{All-push}
 use Rattle.std.proofs.lemmas.Bool.{cond_both, and_parts, ltb-true}
-use Rattle.features.specs.Terms.{Term, only, ◌▸◌}
-use Rattle.notation.specs.Notation.{Command, value, space, point, written_path, written_term, Sized, Writes, Good}
+use Rattle.features.specs.Terms.{Term}
+use Rattle.notation.specs.Notation.{Command, space, point, written_path, written_term, Sized, Writes, Good}
 use Rattle.notation.specs.Classes.{Classed, relation_letter}
 use Rattle.notation.specs.Readings.{Operand, alone, before_value, left, right, Reading, start, named, within_term, within_value, closed, text, operand_text, stem_text, number_text, Below, SizedStem, SizedOperand, Ranged, Follows, related}
 use Rattle.notation.specs.declared.class.Relation.{Relation}
 use Rattle.notation.specs.declared.class.Call.{Call}
 use Rattle.notation.specs.declared.class.Class.{Class}
-use Rattle.notation.proofs.Machine.{class_of, class_of_classed, grown, step, run, command}
-use Rattle.notation.proofs.Running.{run_text, Accepts, accepts}
+use Rattle.notation.proofs.Machine.{class_of_classed, grown, step, run, command}
+use Rattle.notation.proofs.Running.{run_text, accepts}
 
 -- one attribute more in a path, and in a term
 written_path_more : (path : List ℕ) (a : ℕ) → written_path (path ++ (a ∷ [])) ≡ written_path path ++ (point ∷ decimal a)

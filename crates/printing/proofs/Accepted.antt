@@ -1,6 +1,6 @@
 -- Answers that are no refusals.
 use Rattle.std.proofs.Common.{◌≡◌, ℕ, ◌≤◌, List, length, Ok, sym, ap, subst, arith}
-use mathlib.Core.Option.{Option, none}
+use mathlib.Core.Option.{none}
 use Rattle.answers.specs.Answers.{Answer}
 use Rattle.listings.specs.Buffers.{Placed, Fitted}
 use Rattle.listings.proofs.Placing.{placed_front}

@@ -1,11 +1,10 @@
 -- Lines of hexadecimal digits.
-use Rattle.std.proofs.Common.{◌≡◌, ℕ, zero, suc, ◌+◌, ◌-◌, ◌*◌, ◌/◌, ◌%◌, ◌<◌, ◌≤◌, min, List, [], ◌∷◌, ◌++◌, length, take, drop, sym, refl, ap, ◌∙◌, subst, arith, length-append, length-drop, length-take}
+use Rattle.std.proofs.Common.{◌≡◌, ℕ, zero, suc, ◌+◌, ◌-◌, ◌*◌, ◌/◌, ◌%◌, ◌<◌, ◌≤◌, min, List, [], ◌∷◌, ◌++◌, length, take, drop, refl, ap, ◌∙◌, arith, length-append, length-drop, length-take}
 use mathlib.Core.List.{flat_map}
 use Rattle.std.proofs.lemmas.List.{take_all}
 use Rattle.features.specs.Listing.{along}
 use Rattle.features.proofs.Bytes.{along_more}
-use Rattle.listings.specs.Buffers.{Placed}
-use Rattle.listings.proofs.Placing.{placed_more, room_for_more}
+use Rattle.listings.proofs.Placing.{room_for_more}
 use Rattle.printing.proofs.Flat.{take_capped}
 use Rattle.printing.specs.Texts.{line_end, hex_byte, hex_line, lines_for, hexadecimal}
 

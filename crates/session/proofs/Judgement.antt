@@ -1,9 +1,9 @@
 -- A closed graph judged: which clash it shows first, or that there is none.
-use Rattle.std.proofs.Common.{◌≡◌, ℕ, ◌<◌, ◌≤◌, Bool, true, false, cond, List, length, get_or, drop, Ok, Err, vec_items, Result, sym, refl, ap, ◌∙◌, subst, arith}
+use Rattle.std.proofs.Common.{◌≡◌, ℕ, ◌<◌, ◌≤◌, Bool, true, false, cond, List, length, get_or, Ok, Err, vec_items, Result, sym, refl, ap, ◌∙◌, subst, arith}
 use mathlib.Core.Option.{Option, some, none}
 use Rattle.kinds.specs.Meaning.{Meaning, Lawful}
-use Rattle.features.specs.Terms.{Term, Statement}
-use Rattle.features.specs.Graphs.{Graph, SameGraph}
+use Rattle.features.specs.Terms.{Statement}
+use Rattle.features.specs.Graphs.{Graph}
 use Rattle.features.specs.Holding.{Holds, aparts_of}
 use Rattle.features.specs.Clashes.{Broken}
 use Rattle.features.specs.Theorems.{NoClash}
@@ -13,8 +13,6 @@ use Rattle.growth.specs.Theorems.{SameShape}
 use Rattle.growth.proofs.Holding.{same_shape_stands, standing_holds}
 use Rattle.growth.proofs.Naming.{names_no_value, names_leaf_branches, names_broken}
 use Rattle.tables.specs.Views.{graph}
-use Rattle.joining.specs.declared.workspace.Workspace.{Workspace}
-use Rattle.joining.specs.Workspaces.{state}
 use Rattle.numbering.specs.Given.{ord}
 use Rattle.numbering.specs.Traces.{TrailWritten}
 use Rattle.closing.specs.declared.closer.Closer.{Closer}

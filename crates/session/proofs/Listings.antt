@@ -1,9 +1,9 @@
 -- The listing of what a session holds.
-use Rattle.std.proofs.Common.{◌≡◌, ℕ, ◌<◌, ◌≤◌, true, false, List, [], ◌++◌, length, get_or, drop, Ok, Err, vec_items, Result, sym, refl, ap, ◌∙◌, subst, arith}
+use Rattle.std.proofs.Common.{◌≡◌, ℕ, ◌<◌, true, false, List, length, get_or, Ok, Err, vec_items, Result, sym, refl, subst, arith}
 use mathlib.Core.Option.{Option, some, none}
 use Rattle.kinds.specs.Meaning.{Meaning, Lawful}
 use Rattle.features.specs.Terms.{Term, Statement}
-use Rattle.features.specs.Graphs.{Graph, Denotes}
+use Rattle.features.specs.Graphs.{Graph}
 use Rattle.features.specs.Closing.{Came}
 use Rattle.features.specs.Holding.{Holds, Listed, aparts_of}
 use Rattle.features.specs.Listing.{written}
@@ -17,7 +17,7 @@ use Rattle.closing.specs.declared.closer.Closer.{Closer}
 use Rattle.closing.specs.Closings.{Arranged, closed_graph, closed_state}
 use Rattle.answers.specs.declared.refusal.Refusal.{Refusal}
 use Rattle.answers.specs.declared.refusal.Refusal.TheVariants.{ShortBuffer}
-use Rattle.answers.specs.Answers.{Listing, short, put, Right, listed, list, lists}
+use Rattle.answers.specs.Answers.{Listing, short, put, listed, list, lists}
 use Rattle.answers.specs.Runs.{asked, Has, Step}
 use Rattle.answers.proofs.Keeping.{step_taken}
 use Rattle.session.proofs.Judgement.{value_there}

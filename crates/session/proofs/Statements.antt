@@ -1,21 +1,20 @@
 -- Statements that change the graph: refused and leaving all as it was, or accepted.
-use Rattle.std.proofs.Common.{◌≡◌, ℕ, ◌<◌, ◌≤◌, Bool, true, false, cond, ltb, ◌⊎◌, List, [], ◌∷◌, ◌++◌, length, Ok, Err, Result, sym, refl, ap, ◌∙◌, subst, subst₂, inl, inr, append-nil, arith, le-ltb, lt-ltb}
+use Rattle.std.proofs.Common.{◌≡◌, ℕ, ◌<◌, ◌≤◌, Bool, true, false, cond, ltb, ◌⊎◌, List, [], ◌∷◌, ◌++◌, length, Ok, Err, Result, sym, refl, ap, ◌∙◌, subst, subst₂, inl, inr, le-ltb, lt-ltb}
 use mathlib.Core.Option.{Option, some, none}
 use mathlib.Core.List.Memᴰ
 use mathlib.Core.List.{Memᴰ}
 use Rattle.kinds.specs.Meaning.{Meaning, Lawful}
 use Rattle.features.specs.Terms.{Term, Statement, equals, is, apart}
-use Rattle.features.specs.Graphs.{Graph, SameGraph}
-use Rattle.features.specs.Holding.{Sound, Proper, Holds, aparts_of}
+use Rattle.features.specs.Graphs.{Graph}
+use Rattle.features.specs.Holding.{Proper, Holds, aparts_of}
 use Rattle.growth.specs.Standing.{Stands}
 use Rattle.growth.proofs.Declaring.{empty_stands}
 use Rattle.growth.proofs.Holding.{holding_stands, standing_holds}
 use Rattle.closing.specs.declared.closer.Closer.{Closer}
 use Rattle.closing.specs.Closings.{Arranged, closed_graph, closed_state}
-use Rattle.tables.specs.Views as tables
 use Rattle.answers.specs.declared.refusal.Refusal.{Refusal}
 use Rattle.answers.specs.declared.refusal.Refusal.TheVariants.{NoSuchValue, ShortTrail}
-use Rattle.answers.specs.Answers.{first_of, pair_fault, term_fault, terms_fault, value_fault, fault, Closed, accepted, Stated, faultless, stated, state, states}
+use Rattle.answers.specs.Answers.{first_of, pair_fault, term_fault, value_fault, fault, Closed, Stated, faultless, stated, state, states}
 use Rattle.answers.specs.Runs.{asked, Has, Step}
 use Rattle.answers.proofs.Keeping.{step_taken}
 use Rattle.session.specs.Judging.{Ready}

@@ -1,5 +1,5 @@
 -- The graph that rows show.
-use Rattle.std.specs.Prelude.{◌≡◌, ℕ, ◌<◌, ◌≤◌, Bool, true, false, cond, ◌&&◌, List, [], vec_items, vec_len, nat_lt, slice_index, slice_index_or}
+use Rattle.std.specs.Prelude.{◌≡◌, ℕ, ◌<◌, ◌≤◌, cond, ◌&&◌, List, [], vec_items, vec_len, nat_lt, slice_index, slice_index_or}
 use Rattle.std.proofs.Math.Option.{Option, some, none}
 use Rattle.kinds.specs.Masks.{has}
 use Rattle.features.specs.Graphs.{Graph}

@@ -1,4 +1,4 @@
-use Rattle.std.proofs.Common.{◌≡◌, ℕ, ◌≤◌, List, length, take, Result, ap, ◌∙◌, subst, arith, length-take}
+use Rattle.std.proofs.Common.{ℕ, ◌≤◌, List, length, take, Result, ap, subst, arith, length-take}
 use Rattle.answers.specs.Answers.{lists}
 use Rattle.answers.specs.declared.refusal.Refusal.{Refusal}
 use Rattle.listings.specs.Buffers.{Placed}

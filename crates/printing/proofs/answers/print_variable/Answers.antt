@@ -1,4 +1,4 @@
-use Rattle.std.proofs.Common.{ℕ, List, ◌++◌, length, codes, decimal, Result, ap, arith, length-append}
+use Rattle.std.proofs.Common.{ℕ, List, ◌++◌, codes, decimal, Result, ap, arith, length-append}
 use Rattle.answers.specs.Answers.{declares}
 use Rattle.answers.specs.declared.refusal.Refusal.{Refusal}
 use Rattle.listings.proofs.Placing.{placed_append}

@@ -1,4 +1,4 @@
-use Rattle.std.proofs.Common.{ℕ, List, ◌++◌, length, decimal, Option, sym, ap, subst, arith, length-append}
+use Rattle.std.proofs.Common.{ℕ, ◌++◌, decimal, Option, sym, subst, arith, length-append}
 use Rattle.listings.specs.Buffers.{Fitted}
 use Rattle.listings.proofs.Placing.{placed_append}
 use Rattle.printing.specs.Texts.{line_end, found_text}

@@ -1,5 +1,4 @@
-use Rattle.std.proofs.Common.{◌≡◌, ℕ, ◌<◌, List, length, sym, ap, ◌∙◌, subst, arith}
-use Rattle.features.specs.Listing.{along}
+use Rattle.std.proofs.Common.{◌≡◌, ℕ, ◌<◌, List, length, subst, arith}
 use Rattle.listings.specs.Buffers.{Placed}
 use Rattle.listings.proofs.Placing.{placed_none, placed_more}
 use Rattle.printing.specs.Texts.{lines_for, hex_line}

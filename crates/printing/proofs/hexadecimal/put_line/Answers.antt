@@ -1,8 +1,8 @@
-use Rattle.std.proofs.Common.{◌≡◌, ℕ, ◌+◌, ◌*◌, List, length, take, drop, sym, refl, ap, ◌∙◌, subst, arith}
+use Rattle.std.proofs.Common.{ℕ, ◌*◌, List, length, take, drop, ap, subst, arith}
 use mathlib.Core.List.{flat_map}
 use Rattle.listings.specs.Buffers.{Placed}
 use Rattle.listings.proofs.Placing.{placed_append}
-use Rattle.printing.specs.Texts.{line_end, hex_byte, hex_line}
+use Rattle.printing.specs.Texts.{line_end, hex_byte}
 use Rattle.printing.proofs.Hex.{width_bytes, line_is, length_line_is}
 use Rattle.printing.proofs.hexadecimal.put_line.Goals as goal
 

@@ -1,4 +1,4 @@
-use Rattle.std.proofs.Common.{ℕ, List, length, take, sym, ap, ◌∙◌, subst, arith}
+use Rattle.std.proofs.Common.{ℕ, List, length, sym, ap, ◌∙◌, subst, arith}
 use mathlib.Core.List.{flat_map}
 use Rattle.std.proofs.lemmas.List.{take_all}
 use Rattle.listings.specs.Buffers.{Placed}

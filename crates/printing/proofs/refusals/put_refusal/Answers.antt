@@ -1,4 +1,4 @@
-use Rattle.std.proofs.Common.{◌≡◌, ℕ, List, ◌++◌, length, ap, subst, arith, length-append}
+use Rattle.std.proofs.Common.{ℕ, List, ◌++◌, length, ap, subst, arith}
 use Rattle.listings.specs.Buffers.{Placed}
 use Rattle.listings.proofs.Placing.{placed_append, placed_front}
 use Rattle.answers.specs.Refusals as numbers

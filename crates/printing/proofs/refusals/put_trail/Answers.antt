@@ -1,4 +1,4 @@
-use Rattle.std.proofs.Common.{◌≡◌, ℕ, ◌-◌, List, [], ◌∷◌, length, take, ap, subst, arith}
+use Rattle.std.proofs.Common.{ℕ, List, [], ◌∷◌, length, take, ap, subst, arith}
 use Rattle.listings.specs.Buffers.{Placed}
 use Rattle.listings.proofs.Placing.{placed_append}
 use Rattle.notation.specs.Notation.{space, written_term}

@@ -1,12 +1,10 @@
-use Rattle.std.proofs.Common.{◌≡◌, ℕ, List, ap, ◌∙◌, ap₂, arith}
-use Rattle.std.specs.Vec.{with_items}
+use Rattle.std.proofs.Common.{ℕ, List, ap, ◌∙◌, ap₂, arith}
 use Rattle.std.proofs.lemmas.List.{with_items_is}
 use Rattle.features.specs.Terms as terms
 use Rattle.answers.specs.Answers as answers
 use Rattle.notation.specs.Notation as written
 use Rattle.notation.specs.Views.{term_of}
 use Rattle.session.specs.Parts as parts
-use Rattle.lines.specs.declared.responder.Responder.{Responder}
 use Rattle.lines.proofs.Calling.{called}
 use Rattle.lines.proofs.responder.Responder.equals.Goals as goal
 

@@ -4,7 +4,7 @@ use Rattle.notation.specs.Views.{command_of}
 use Rattle.printing.specs.Outcomes.{size}
 use Rattle.printing.specs.Texts.{answer_text, malformed_text}
 use Rattle.printing.specs.declared.outcome.Ground.{Ground}
-use Rattle.lines.specs.Responses.{Responds, short, unread, answered}
+use Rattle.lines.specs.Responses.{short, unread, answered}
 use Rattle.lines.proofs.Lines.{fits}
 use Rattle.lines.proofs.responder.Responder.respond.Goals as goal
 

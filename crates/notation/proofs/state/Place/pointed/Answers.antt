@@ -1,4 +1,4 @@
-use Rattle.std.proofs.Common.{◌≡◌, ◌^◌, Some, None, sym, refl, ap, ◌∙◌, subst}
+use Rattle.std.proofs.Common.{◌^◌, Some, None, sym, refl, ap, ◌∙◌, subst}
 use Rattle.notation.specs.Notation.{point}
 use Rattle.notation.specs.Readings.{within_term, Below}
 use Rattle.notation.specs.Views.{operand_of, within}

@@ -1,4 +1,4 @@
-use Rattle.std.proofs.Common.{◌≡◌, ◌^◌, ◌≤◌, length, Some, None, sym, ap, ◌∙◌, subst}
+use Rattle.std.proofs.Common.{◌^◌, ◌≤◌, length, None, sym, ap, ◌∙◌, subst}
 use Rattle.notation.specs.Readings.{within_value, text, Ranged, Below, ended}
 use Rattle.notation.specs.Views.{term_of, operand_of, within, reading_of}
 use Rattle.notation.proofs.Machine.{command}

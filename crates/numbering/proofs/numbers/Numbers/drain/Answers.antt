@@ -1,7 +1,7 @@
 use Rattle.std.proofs.Common.{ℕ, ◌+◌, List, sym, ap, ◌∙◌, subst, arith}
 use Rattle.features.specs.Numbering.{by_attribute}
 use Rattle.tables.specs.Views.{graph}
-use Rattle.queue.specs.Waiting.{waiting, capacity}
+use Rattle.queue.specs.Waiting.{waiting}
 use Rattle.numbering.specs.Given.{ord, num}
 use Rattle.numbering.specs.Frontier.{Underway}
 use Rattle.numbering.proofs.Steps.{Popped, popped, waiting_long, drained}

@@ -1,4 +1,4 @@
-use Rattle.std.proofs.Common.{◌≡◌, ℕ, true, false, List, [], ◌∷◌, ◌++◌, length, Ok, Err, sym, refl, ◌∙◌, subst}
+use Rattle.std.proofs.Common.{◌≡◌, ℕ, List, [], ◌∷◌, ◌++◌, length, Ok, Err, sym, refl, ◌∙◌, subst}
 use mathlib.Core.Option.{some, none}
 use Rattle.std.proofs.lemmas.Result.{err_from_is_err_and}
 use Rattle.features.specs.Terms.{Statement, is}

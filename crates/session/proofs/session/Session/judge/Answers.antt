@@ -1,4 +1,4 @@
-use Rattle.std.proofs.Common.{◌≡◌, arith}
+use Rattle.std.proofs.Common.{arith}
 use Rattle.tables.specs.Views as tables
 use Rattle.tables.proofs.Known.{sound_known}
 use Rattle.session.specs.Sessions.{kept}

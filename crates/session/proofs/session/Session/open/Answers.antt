@@ -1,4 +1,4 @@
-use Rattle.std.proofs.Common.{◌≡◌, map, refl, ap, arith}
+use Rattle.std.proofs.Common.{map, refl, ap, arith}
 use Rattle.answers.proofs.Keeping.{fresh}
 use Rattle.answers.proofs.Promising.{promise}
 use Rattle.tables.specs.Views as tables

@@ -1,4 +1,4 @@
-use Rattle.std.proofs.Common.{Bool, false, ◌&&◌, ltb, replicate, refl, ap, ◌∙◌}
+use Rattle.std.proofs.Common.{Bool, ◌&&◌, ltb, replicate, refl, ap, ◌∙◌}
 use Rattle.kinds.specs.BitSets.{has_none}
 use Rattle.tables.proofs.Leading.{absent, and_false}
 use Rattle.tables.proofs.node.Node.bare.Goals as goal

@@ -1,4 +1,4 @@
-use Rattle.std.proofs.Common.{◌≡◌, ℕ, length, refl, rules}
+use Rattle.std.proofs.Common.{◌≡◌, length, refl, rules}
 use Rattle.tables.proofs.Leading.{set_leads, set_others}
 use Rattle.tables.proofs.node.Node.lead.Goals as goal
 

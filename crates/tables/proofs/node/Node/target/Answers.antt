@@ -1,5 +1,4 @@
-use Rattle.std.proofs.Common.{◌≡◌, ◌/◌, ◌^◌, Bool, true, false, ◌&&◌, eqb, ltb, sym, ap, ◌∙◌, le-ltb, lt-ltb, eq-eqb, ne_eqb}
-use lib.Bits.{bit_and}
+use Rattle.std.proofs.Common.{Bool, ◌&&◌, ltb, sym, ap, ◌∙◌, le-ltb, lt-ltb, eq-eqb, ne_eqb}
 use Rattle.std.proofs.lemmas.Bool.{and_from}
 use Rattle.kinds.specs.Masks.{has}
 use Rattle.tables.proofs.Leading.{absent, present, and_false, bit_test}
