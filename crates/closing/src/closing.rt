@@ -1,7 +1,7 @@
 // Statements that change the graph.
 ghost use Rattle.std.specs.Prelude.{◌≡◌, ◌≤◌};
 ghost use Rattle.kinds.specs.Meaning.{Meaning};
-ghost use Rattle.features.specs.Holding.{Sound as Proper-term};
+ghost use Rattle.features.specs.Holding.{Sound as ProperTerm};
 ghost use Rattle.features.specs.Terms.{equals as equation, is as assignment};
 ghost use Rattle.tables.specs.Views.{Sound};
 ghost use Rattle.closing.specs.Closings.{Arranged, Closes, Lists, term as term_of};
@@ -16,8 +16,8 @@ impl Closer {
     pub fn close_equation<K: Kind>(&mut self, kind: &K, table: &Table, p: Term<'_>, q: Term<'_>)
         requires sound { Sound table.now }
         requires few { table.now.used ≤ 256 }
-        requires left { Proper-term table.now.vars (term_of p.var p.path.now) }
-        requires right { Proper-term table.now.vars (term_of q.var q.path.now) }
+        requires left { ProperTerm table.now.vars (term_of p.var p.path.now) }
+        requires right { ProperTerm table.now.vars (term_of q.var q.path.now) }
         ensures { Closes (K.meaning kind.now) table.now (equation (term_of p.entry.var p.entry.path.now) (term_of q.entry.var q.entry.path.now)) self.new }
     {
         let top = kind.top();
@@ -34,7 +34,7 @@ impl Closer {
     pub fn close_value<K: Kind>(&mut self, kind: &K, table: &Table, p: Term<'_>, value: u64)
         requires sound { Sound table.now }
         requires few { table.now.used ≤ 256 }
-        requires left { Proper-term table.now.vars (term_of p.var p.path.now) }
+        requires left { ProperTerm table.now.vars (term_of p.var p.path.now) }
         ensures { Closes (K.meaning kind.now) table.now (assignment (term_of p.entry.var p.entry.path.now) value) self.new }
     {
         let top = kind.top();
