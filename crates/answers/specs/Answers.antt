@@ -14,9 +14,9 @@ use Rattle.answers.specs.declared.refusal.Refusal.{Refusal}
 use Rattle.answers.specs.declared.refusal.Refusal.TheVariants.{Undeclared, LongTerm, NoAttribute, NoSuchValue, ShortTrail, ApartsFull, ValueClash, LeafClash, ApartClash, VariablesFull, NodesFull, ShortBuffer}
 
 -- the first of two faults
-abbrev pub first_of : Option Refusal → Option Refusal → Option Refusal
-first_of none b = b
-first_of (some r) b = some r
+abbrev pub first_refusal : Option Refusal → Option Refusal → Option Refusal
+first_refusal none b = b
+first_refusal (some r) b = some r
 
 -- the first attribute above 31, by its position
 abbrev pub above_31 : ℕ → ℕ → List ℕ → Option Refusal
@@ -26,12 +26,12 @@ above_31 side at (a ∷ rest) = cond (nat_lt 31 a) (some (NoAttribute side at)) 
 -- what is wrong with one term, where anything is
 abbrev pub term_fault : ℕ → ℕ → Term → Option Refusal
 term_fault vars side t =
-    first_of (cond (nat_lt t.var vars) none (some (Undeclared side)))
-    (first_of (cond (nat_le (length t.path) 8) none (some (LongTerm side))) (above_31 side 0 t.path))
+    first_refusal (cond (nat_lt t.var vars) none (some (Undeclared side)))
+    (first_refusal (cond (nat_le (length t.path) 8) none (some (LongTerm side))) (above_31 side 0 t.path))
 
 -- and with two, the left one first
 abbrev pub pair_fault : ℕ → Term → Term → Option Refusal
-pair_fault vars p q = first_of (term_fault vars 0 p) (term_fault vars 1 q)
+pair_fault vars p q = first_refusal (term_fault vars 0 p) (term_fault vars 1 q)
 
 abbrev pub terms_fault : ℕ → Statement → Option Refusal
 terms_fault vars (equals p q) = pair_fault vars p q
@@ -51,7 +51,7 @@ full_fault said (apart p q) = cond (nat_lt (length (aparts_of said)) 128) none (
 -- the first ground, apart from what closing shows, on which a statement is refused; `room` is the length of its trail
 abbrev pub fault : Meaning → ℕ → List Statement → Statement → ℕ → Option Refusal
 fault m vars said s room =
-    first_of (terms_fault vars s) (first_of (value_fault m s) (first_of (cond (nat_lt room 272) (some ShortTrail) none) (full_fault said s)))
+    first_refusal (terms_fault vars s) (first_refusal (value_fault m s) (first_refusal (cond (nat_lt room 272) (some ShortTrail) none) (full_fault said s)))
 
 -- no clash of the first sort, and none of the second
 abbrev pub EveryNodeValued : Meaning → ℕ → List Statement → Type 0

@@ -1,7 +1,7 @@
 -- What a drawing that stands for statements shows of them: which clash they have or that they have none, and so the right answer to a call.
 use Rattle.std.proofs.Common.{◌≡◌, ℕ, zero, suc, ◌<◌, ◌≤◌, Bool, true, false, cond, not, ltb, leb, ◌⊎◌, List, [], ◌∷◌, ◌++◌, length, Ok, Result, sym, refl, ap, ◌∙◌, subst, inl, inr, arith}
 use mathlib.Core.Option.{Option, some, none}
-use Rattle.std.specs.List.{AllByRecursion as All}
+use Rattle.std.specs.List.{AllByRecursion}
 use Rattle.std.proofs.ByRecursion.{All-get_or}
 use Rattle.std.proofs.lemmas.Bool.{ltb-true, ltb-false, leb-true, le-ltb, eq-eqb, not-true}
 use Rattle.kinds.specs.Meaning.{Meaning, Lawful}
@@ -18,17 +18,17 @@ use Rattle.growth.specs.Standing.{Shape, Judged, greatest, void}
 use Rattle.growth.proofs.Holding.{standing_holds}
 use Rattle.answers.specs.declared.refusal.Refusal.{Refusal}
 use Rattle.answers.specs.declared.refusal.Refusal.TheVariants.{ShortTrail}
-use Rattle.answers.specs.Answers.{first_of, above_31, term_fault, terms_fault, value_fault, full_fault, fault, EveryNodeValued, EveryLeafBare, Nodes, Closed, declare, state, declares, states, Right}
+use Rattle.answers.specs.Answers.{first_refusal, above_31, term_fault, terms_fault, value_fault, full_fault, fault, EveryNodeValued, EveryLeafBare, Nodes, Closed, declare, state, declares, states, Right}
 use Rattle.answers.specs.Answers.{accepted, faultless, numbered, declared, stated}
 use Rattle.cases.proofs.Reaching.{reach, denotes_reach, reach_denotes}
 use Rattle.cases.proofs.Drawings.{Drawing, drawn, state_at, or_zero, Along, along_at, all_member, arrow_at, one_node, Certified, certified_shape, certified_stands}
 
 -- no fault, nor a second one
-none_of : (a b : Option Refusal) → a ≡ none → b ≡ none → first_of a b ≡ none
+none_of : (a b : Option Refusal) → a ≡ none → b ≡ none → first_refusal a b ≡ none
 none_of none b p q = q
 none_of (some r) b p q = absurd (let z : ◌≡◌ {A = ℕ} 0 1 = cc in omega arith)
 
-none_each : (a b : Option Refusal) → first_of a b ≡ none → (a ≡ none) × (b ≡ none)
+none_each : (a b : Option Refusal) → first_refusal a b ≡ none → (a ≡ none) × (b ≡ none)
 none_each none b e = (refl, e)
 none_each (some r) b e = absurd (let z : ◌≡◌ {A = ℕ} 0 1 = cc in omega arith)
 
@@ -56,7 +56,7 @@ sound vars side t e =
 
 -- what is wrong with the terms and the value of a statement
 abbrev pub own_fault : Meaning → ℕ → Statement → Option Refusal
-own_fault m vars s = first_of (terms_fault vars s) (value_fault m s)
+own_fault m vars s = first_refusal (terms_fault vars s) (value_fault m s)
 
 proper : (m : Meaning) (vars : ℕ) (s : Statement) → own_fault m vars s ≡ none → Proper m vars s
 proper m vars (equals p q) e = let f = none_each _ _ (none_each _ _ e).0 in (sound vars 0 p f.0, sound vars 1 q f.1)
@@ -108,21 +108,21 @@ module _ {m : Meaning} (lawful : Lawful m) {vars : ℕ} {said : List Statement} 
     no_value_at t n e empty = no_value_there ((certified_stands lawful c).judged t n (reach_denotes (drawn d) t n e)) empty
 
     -- a value on every node: no clash of values
-    pub every_node_valued : All (λ o. there o ≡ true) d.states → EveryNodeValued m vars said
+    pub every_node_valued : AllByRecursion (λ o. there o ≡ true) d.states → EveryNodeValued m vars said
     every_node_valued full t first nothing =
         let b = (certified_shape lawful c).joined t t first.denotes in
         value_there ((certified_stands lawful c).judged t b.0 b.1)
         (All-get_or (λ o. there o ≡ true) d.states b.0 none ((certified_shape lawful c).inside t b.0 b.1) full) nothing
 
     -- no attribute on a leaf
-    pub every_leaf_bare : All (λ e. leafy m (state_at d e.tail) ≡ false) d.arrows → EveryLeafBare m vars said
+    pub every_leaf_bare : AllByRecursion (λ e. leafy m (state_at d e.tail) ≡ false) d.arrows → EveryLeafBare m vars said
     every_leaf_bare bare t first (v, a, valued, leaf, j) =
         let b = (certified_shape lawful c).joined (t ▸ a) (t ▸ a) j in
         let k = leads_back t.path b.1.1 in
         let inner = arrow_at (λ n a t. leafy m (state_at d n) ≡ false) d.arrows bare k.0 a b.0 k.2 in
         no_leaf v ((certified_stands lawful c).judged t k.0 (b.1.0, k.1)) inner valued leaf
 
-    every_apart_kept : All (λ s. separate (drawn d) s ≡ true) said → (j : ℕ) → Broken m vars said (aparts_of said) j → ⊥
+    every_apart_kept : AllByRecursion (λ s. separate (drawn d) s ≡ true) said → (j : ℕ) → Broken m vars said (aparts_of said) j → ⊥
     every_apart_kept apart_all j broken =
         let r = broken_is m vars said broken in
         let p = r.0 in
@@ -136,7 +136,7 @@ module _ {m : Meaning} (lawful : Lawful m) {vars : ℕ} {said : List Statement} 
         omega arith
 
     -- statements without a fault are held where every node has a value
-    pub full_holds : All (λ o. there o ≡ true) d.states → All (λ s. own_fault m vars s ≡ none) said → Holds m (drawn d) (aparts_of said) vars said
+    pub full_holds : AllByRecursion (λ o. there o ≡ true) d.states → AllByRecursion (λ s. own_fault m vars s ≡ none) said → Holds m (drawn d) (aparts_of said) vars said
     full_holds full fine =
         standing_holds m (drawn d) (state_at d) (aparts_of said) vars said (certified_stands lawful c)
         (λ n lt. there_some (state_at d n) (All-get_or (λ o. there o ≡ true) d.states n none lt full))
@@ -145,10 +145,10 @@ module _ {m : Meaning} (lawful : Lawful m) {vars : ℕ} {said : List Statement} 
 -- a drawing stands for statements, and they have no fault and no clash
 pub record Consistent (m : Meaning) (vars : ℕ) (said : List Statement) (d : Drawing) (names : List Term) : Type 0 where
   pub certified : Certified m vars said d names
-  pub full : All (λ o. there o ≡ true) d.states
-  pub sound : All (λ s. own_fault m vars s ≡ none) said
-  pub bare : All (λ e. leafy m (state_at d e.tail) ≡ false) d.arrows
-  pub apart_all : All (λ s. separate (drawn d) s ≡ true) said
+  pub full : AllByRecursion (λ o. there o ≡ true) d.states
+  pub sound : AllByRecursion (λ s. own_fault m vars s ≡ none) said
+  pub bare : AllByRecursion (λ e. leafy m (state_at d e.tail) ≡ false) d.arrows
+  pub apart_all : AllByRecursion (λ s. separate (drawn d) s ≡ true) said
   pub few : length d.states ≤ 256
 
 module _ {m : Meaning} (lawful : Lawful m) {vars : ℕ} {said : List Statement} {d : Drawing} {names : List Term} (c : Consistent m vars said d names) where

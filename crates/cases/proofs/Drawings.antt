@@ -3,7 +3,7 @@
 use Rattle.std.proofs.Common.{◌≡◌, ℕ, zero, suc, ◌<◌, Bool, true, false, cond, ◌&&◌, eqb, List, [], ◌∷◌, length, get_or, sym, refl, ap, subst, arith}
 use mathlib.Core.Option.{Option, some, none}
 use mathlib.Core.List.{Memᴰ}
-use Rattle.std.specs.List.{AllByRecursion as All}
+use Rattle.std.specs.List.{AllByRecursion}
 use Rattle.std.proofs.lemmas.Bool.{and_parts, eqb-true}
 use Rattle.kinds.specs.Meaning.{Meaning, Lawful, BelowAll, GreatestOfAll}
 use Rattle.kinds.specs.Meets.{Apart}
@@ -57,13 +57,13 @@ along_at P [] d h i l = absurd (omega arith)
 along_at P (x ∷ xs) d h zero l = h.0
 along_at P (x ∷ xs) d h (suc i) l = along_at (λ i y. P (suc i) y) xs d h.1 i (omega arith)
 
-pub all_member : {X : Type 0} (P : X → Type 0) (xs : List X) → All P xs → {x : X} → Memᴰ x xs → P x
+pub all_member : {X : Type 0} (P : X → Type 0) (xs : List X) → AllByRecursion P xs → {x : X} → Memᴰ x xs → P x
 all_member P [] h i = elim i [ ]
 all_member P (y ∷ xs) h (Memᴰ.head e) = subst P (sym e) h.0
 all_member P (y ∷ xs) h (Memᴰ.tail i) = all_member P xs h.1 i
 
 -- what holds of each arrow holds of each attribute
-pub arrow_at : (P : ℕ → ℕ → ℕ → Type 0) (arrows : List Arrow) → All (λ e. P e.tail e.attribute e.head) arrows → (n a t : ℕ) → target arrows n a ≡ some t → P n a t
+pub arrow_at : (P : ℕ → ℕ → ℕ → Type 0) (arrows : List Arrow) → AllByRecursion (λ e. P e.tail e.attribute e.head) arrows → (n a t : ℕ) → target arrows n a ≡ some t → P n a t
 arrow_at P [] h n a t e = absurd (let z : ◌≡◌ {A = ℕ} 0 1 = cc in omega arith)
 arrow_at P (x ∷ rest) h n a t e = by_test (arrow_at P rest h.1 n a t) (eqb n x.tail && eqb a x.attribute) refl e
   where
@@ -107,9 +107,9 @@ MeetIs m vs none = Apart m vs
 
 pub record Certified (m : Meaning) (vars : ℕ) (said : List Statement) (d : Drawing) (names : List Term) : Type 0 where
   pub all : length d.roots ≡ vars
-  pub agrees : All (λ s. agreed (drawn d) s ≡ true) said
+  pub agrees : AllByRecursion (λ s. agreed (drawn d) s ≡ true) said
   pub roots : Along (λ x n. (n < length d.states) × Joined vars said (only x) (name names n)) d.roots
-  pub arrows : All (λ e. (e.head < length d.states) × Joined vars said (name names e.tail ▸ e.attribute) (name names e.head)) d.arrows
+  pub arrows : AllByRecursion (λ e. (e.head < length d.states) × Joined vars said (name names e.tail ▸ e.attribute) (name names e.head)) d.arrows
   pub named : Along (λ n o. reach (drawn d) (name names n) ≡ some n) d.states
   pub meets : Along (λ n o. MeetIs m (said_at (drawn d) n said) o) d.states
 

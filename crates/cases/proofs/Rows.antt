@@ -2,7 +2,7 @@
 use Rattle.std.proofs.Common.{◌≡◌, ℕ, ◌≤◌, true, List, [], ◌∷◌, length, refl, arith}
 use mathlib.Core.Option.{Option, some, none}
 use mathlib.Core.List.Memᴰ
-use Rattle.std.specs.List.{AllByRecursion as All}
+use Rattle.std.specs.List.{AllByRecursion}
 use Rattle.kinds.specs.Meaning.{Meaning, Lawful, GreatestOfAll}
 use Rattle.kinds.specs.Atoms.{atoms}
 use Rattle.kinds.specs.ValueSets.{value_sets}
@@ -38,12 +38,12 @@ abbrev dot : Option ℕ → Drawing
 dot o = record { roots = 0 ∷ []; arrows = []; states = o ∷ [] }
 
 certified_dot : (m : Meaning) (said : List Statement) (o : Option ℕ)
-    → All (λ s. agreed (drawn (dot o)) s ≡ true) said → MeetIs m (said_at (drawn (dot o)) 0 said) o → Certified m 1 said (dot o) (only 0 ∷ [])
+    → AllByRecursion (λ s. agreed (drawn (dot o)) s ≡ true) said → MeetIs m (said_at (drawn (dot o)) 0 said) o → Certified m 1 said (dot o) (only 0 ∷ [])
 certified_dot m said o agrees meet = record { all = refl; agrees = agrees; roots = ((omega arith, variable 0 (omega arith)), tt); arrows = tt; named = (refl, tt); meets = (meet, tt) }
 
 consistent_dot : (m : Meaning) (said : List Statement) (v : ℕ)
-    → All (λ s. agreed (drawn (dot (some v))) s ≡ true) said → GreatestOfAll m (said_at (drawn (dot (some v))) 0 said) v
-    → All (λ s. own_fault m 1 s ≡ none) said → All (λ s. separate (drawn (dot (some v))) s ≡ true) said
+    → AllByRecursion (λ s. agreed (drawn (dot (some v))) s ≡ true) said → GreatestOfAll m (said_at (drawn (dot (some v))) 0 said) v
+    → AllByRecursion (λ s. own_fault m 1 s ≡ none) said → AllByRecursion (λ s. separate (drawn (dot (some v))) s ≡ true) said
     → Consistent m 1 said (dot (some v)) (only 0 ∷ [])
 consistent_dot m said v agrees meet fine parted = record { certified = certified_dot m said (some v) agrees meet; full = (refl, tt); sound = fine; bare = tt; apart_all = parted; few = omega arith }
 
@@ -55,8 +55,8 @@ abbrev two : ℕ → ℕ → Drawing
 two v w = record { roots = 0 ∷ 1 ∷ []; arrows = []; states = some v ∷ some w ∷ [] }
 
 consistent_two : (m : Meaning) (said : List Statement) (v w : ℕ)
-    → All (λ s. agreed (drawn (two v w)) s ≡ true) said → GreatestOfAll m (said_at (drawn (two v w)) 0 said) v → GreatestOfAll m (said_at (drawn (two v w)) 1 said) w
-    → All (λ s. own_fault m 2 s ≡ none) said → All (λ s. separate (drawn (two v w)) s ≡ true) said
+    → AllByRecursion (λ s. agreed (drawn (two v w)) s ≡ true) said → GreatestOfAll m (said_at (drawn (two v w)) 0 said) v → GreatestOfAll m (said_at (drawn (two v w)) 1 said) w
+    → AllByRecursion (λ s. own_fault m 2 s ≡ none) said → AllByRecursion (λ s. separate (drawn (two v w)) s ≡ true) said
     → Consistent m 2 said (two v w) (only 0 ∷ only 1 ∷ [])
 consistent_two m said v w agrees left right fine parted = record {
   certified = record {
@@ -103,7 +103,7 @@ abbrev stem : ℕ → ℕ → Drawing
 stem v w = record { roots = 0 ∷ []; arrows = record { tail = 0; attribute = 1; head = 1 } ∷ []; states = some v ∷ some w ∷ [] }
 
 certified_stem : (m : Meaning) (said : List Statement) (v w : ℕ)
-    → All (λ s. agreed (drawn (stem v w)) s ≡ true) said → Joined 1 said (only 0 ▸ 1) (only 0 ▸ 1) → GreatestOfAll m (said_at (drawn (stem v w)) 0 said) v → GreatestOfAll m (said_at (drawn (stem v w)) 1 said) w
+    → AllByRecursion (λ s. agreed (drawn (stem v w)) s ≡ true) said → Joined 1 said (only 0 ▸ 1) (only 0 ▸ 1) → GreatestOfAll m (said_at (drawn (stem v w)) 0 said) v → GreatestOfAll m (said_at (drawn (stem v w)) 1 said) w
     → Certified m 1 said (stem v w) (only 0 ∷ only 0 ▸ 1 ∷ [])
 certified_stem m said v w agrees led upper lower = record {
   all = refl;

@@ -185,13 +185,13 @@ module _ (g : Graph) (inside : Inside g) (sorted : InOrder g) where
   trail_front : (t : Term) (a i n : ℕ) → Trail g n (t ▸ a) → Denotes g t i → g.edge i a ≡ some n → Trail g i t
   trail_front t a i n r d e = record { denotes = d; first = λ p h l. r.first (p ▸ a) (h.0, leads_more h.1 e) (≺-extend p t a a l) }
 
-  first_of : (n x : ℕ) (xs : List ℕ) → Ended xs → n < g.nodes → Trail g n (record { var = x; path = xs }) → (k : Mention) × FirstMention g n k × Ends g (record { var = x; path = xs }) k
-  first_of n x xs empty lt r = (by_variable x, record { mentions = (r.denotes.0, leads_same here r.denotes.1); none_sooner = none_sooner }, in_variable)
+  mention_of : (n x : ℕ) (xs : List ℕ) → Ended xs → n < g.nodes → Trail g n (record { var = x; path = xs }) → (k : Mention) × FirstMention g n k × Ends g (record { var = x; path = xs }) k
+  mention_of n x xs empty lt r = (by_variable x, record { mentions = (r.denotes.0, leads_same here r.denotes.1); none_sooner = none_sooner }, in_variable)
     where
       none_sooner : (l : Mention) → Mentions g n l → Sooner l (by_variable x) → ⊥
       none_sooner (by_variable y) m h = r.first (only y) (m.0, subst (λ (z : ℕ). Leads g (g.root y) [] z) m.1 here) (inr (refl, inl h))
       none_sooner (by_attribute i a) m h = h
-  first_of n x ys (more {xs} a e) lt r =
+  mention_of n x ys (more {xs} a e) lt r =
       let b = leads_back xs r.denotes.1 in
       let d : Denotes g q b.0 = (r.denotes.0, b.1) in
       let i_in = denotes_inside g inside q b.0 d in
@@ -213,7 +213,7 @@ module _ (g : Graph) (inside : Inside g) (sorted : InOrder g) where
   -- the trail of a node ends in its first mention
   trail_ends : (n : ℕ) (t : Term) (k : Mention) → n < g.nodes → Trail g n t → FirstMention g n k → Ends g t k
   trail_ends n t k lt r f =
-      let e = first_of n t.var t.path (ended t.path) lt r in
+      let e = mention_of n t.var t.path (ended t.path) lt r in
       subst (λ (z : Mention). Ends g t z) (first_mention_same g n e.0 k e.1 f) e.2
 
   giver_before : (n i a : ℕ) (t : Term) → n < g.nodes → Trail g n t → Ends g t (by_attribute i a) → i < n
@@ -251,7 +251,7 @@ module _ (g : Graph) (inside : Inside g) (sorted : InOrder g) where
   in_order_breadth_first = record {
     mentioned = λ n lt.
         let r = sorted.reached n lt in
-        let e = first_of n r.0.var r.0.path (ended r.0.path) lt r.1 in
+        let e = mention_of n r.0.var r.0.path (ended r.0.path) lt r.1 in
         (e.0, e.1);
     numbered_before = λ n i a lt f.
         let r = sorted.reached n lt in

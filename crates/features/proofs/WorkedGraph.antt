@@ -2,7 +2,7 @@
 use Rattle.std.proofs.Common.{◌≡◌, ℕ, zero, suc, ◌<◌, ◌≤◌, List, [], ◌∷◌, length, get_or, sym, refl, subst, inl, inr, arith}
 use mathlib.Core.Option.{Option, some, none}
 use mathlib.Core.List.{Memᴰ}
-use Rattle.std.specs.List.{AllByRecursion as All}
+use Rattle.std.specs.List.{AllByRecursion}
 use Rattle.kinds.specs.Meaning.{Meaning, Lawful}
 use Rattle.features.specs.Terms.{Term, Statement, apart, only, ◌▸◌}
 use Rattle.features.specs.Graphs.{Graph, Leads, here, step, Denotes, Satisfies, Model}
@@ -107,12 +107,12 @@ two_terms_denote_nothing v n = (longer, λ d. no_step d.1 refl)
         let out : Leads (worked v) 1 (3 ∷ []) 5 = step refl here in
         some_not_none (subst (λ (z : ℕ). (worked v).edge z 4 ≡ some n) (sym (leads_same out b.1)) b.2) refl
 
-every_said : (P : Statement → Type 0) (l : List Statement) → All P l → (s : Statement) → Memᴰ s l → P s
+every_said : (P : Statement → Type 0) (l : List Statement) → AllByRecursion P l → (s : Statement) → Memᴰ s l → P s
 every_said P [] h s m = elim m [ ]
 every_said P (x ∷ l) h s (Memᴰ.head e) = subst P (sym e) h.0
 every_said P (x ∷ l) h s (Memᴰ.tail m) = every_said P l h.1 s m
 
-statements : (m : Meaning) → All (Satisfies m (worked m.top)) said
+statements : (m : Meaning) → AllByRecursion (Satisfies m (worked m.top)) said
 statements m = (
   (6, (omega arith, step refl here), (omega arith, step refl (step refl here))),
   (
@@ -237,14 +237,14 @@ to_trail v (more {xs} a e) x n lt l =
     let k = leads_trails b.0 a n b.2 in
     chain (turn (under a (turn j) (twice k))) k
 
-small : (xs : List ℕ) → All (λ a. a < 32) xs → Small xs
+small : (xs : List ℕ) → AllByRecursion (λ a. a < 32) xs → Small xs
 small [] h = end
 small (x ∷ xs) h = also h.0 (small xs h.1)
 
-sound : (t : Term) → (t.var < 4) × (length t.path ≤ 8) × All (λ a. a < 32) t.path → Sound 4 t
+sound : (t : Term) → (t.var < 4) × (length t.path ≤ 8) × AllByRecursion (λ a. a < 32) t.path → Sound 4 t
 sound t h = record { declared = h.0; short = h.1; small = small t.path h.2 }
 
-proper_all : (m : Meaning) → All (Proper m 4) said
+proper_all : (m : Meaning) → AllByRecursion (Proper m 4) said
 proper_all m = (
   (sound (only 3 ▸ 1) (omega arith), sound (only 1 ▸ 3 ▸ 5) (omega arith)),
   (
@@ -281,8 +281,8 @@ holds_what_was_said m lawful = record {
 }
 
 -- how each node is first mentioned
-first_of : ℕ → Mention
-first_of n = get_or (by_variable 0 ∷ by_variable 1 ∷ by_variable 3 ∷ by_attribute 0 0 ∷ by_attribute 0 1 ∷ by_attribute 1 3 ∷ by_attribute 2 1 ∷ []) n (by_variable 0)
+mention_of : ℕ → Mention
+mention_of n = get_or (by_variable 0 ∷ by_variable 1 ∷ by_variable 3 ∷ by_attribute 0 0 ∷ by_attribute 0 1 ∷ by_attribute 1 3 ∷ by_attribute 2 1 ∷ []) n (by_variable 0)
 
 -- none of the variables and attributes mentions n sooner
 abbrev Unmentioned : ℕ → Mention → Type 0
@@ -301,10 +301,10 @@ first_mention v n k m u = record { mentions = m; none_sooner = none_sooner }
     none_sooner (by_attribute i a) q =
         every_edge (λ i a t. t ≡ n → Sooner (by_attribute i a) k → ⊥) u.1.0 u.1.1 u.1.2 u.1.3 u.1.4 u.1.5 u.1.6 u.1.7 u.1.8 i a n q.1 refl
 
-first_mentions : (v n : ℕ) → n < 7 → FirstMention (worked v) n (first_of n)
-unfolding first_of
+first_mentions : (v n : ℕ) → n < 7 → FirstMention (worked v) n (mention_of n)
+unfolding mention_of
 first_mentions v =
-    every_node (λ n. FirstMention (worked v) n (first_of n))
+    every_node (λ n. FirstMention (worked v) n (mention_of n))
     (first_mention v 0 (by_variable 0) (omega arith, refl) (omega arith))
     (first_mention v 1 (by_variable 1) (omega arith, refl) (omega arith))
     (first_mention v 2 (by_variable 3) (omega arith, refl) (omega arith))
@@ -313,15 +313,15 @@ first_mentions v =
     (first_mention v 5 (by_attribute 1 3) (omega arith, refl) (omega arith))
     (first_mention v 6 (by_attribute 2 1) (omega arith, refl) (omega arith))
 
-given_before : (n : ℕ) → n < 7 → GivenBefore n (first_of n)
-unfolding first_of
-given_before = every_node (λ n. GivenBefore n (first_of n)) tt tt tt (omega arith) (omega arith) (omega arith) (omega arith)
+given_before : (n : ℕ) → n < 7 → GivenBefore n (mention_of n)
+unfolding mention_of
+given_before = every_node (λ n. GivenBefore n (mention_of n)) tt tt tt (omega arith) (omega arith) (omega arith) (omega arith)
 
-next_later : (n : ℕ) → n < 6 → Sooner (first_of n) (first_of (suc n))
-unfolding first_of
+next_later : (n : ℕ) → n < 6 → Sooner (mention_of n) (mention_of (suc n))
+unfolding mention_of
 next_later n l =
-    every_node (λ n. n < 6 → Sooner (first_of n) (first_of (suc n)))
+    every_node (λ n. n < 6 → Sooner (mention_of n) (mention_of (suc n)))
     (λ h. omega arith) (λ h. omega arith) (λ h. tt) (λ h. inr (refl, omega arith)) (λ h. inl (omega arith)) (λ h. inl (omega arith)) (λ h. absurd (omega arith)) n (omega arith) l
 
 pub in_order : (v : ℕ) → InOrder (worked v)
-in_order v = breadth_first_in_order (worked v) (inside v) (breadth_first_by_firsts (worked v) first_of (λ n l. next_later n (omega arith)) (first_mentions v) given_before)
+in_order v = breadth_first_in_order (worked v) (inside v) (breadth_first_by_firsts (worked v) mention_of (λ n l. next_later n (omega arith)) (first_mentions v) given_before)

@@ -14,7 +14,7 @@ use Rattle.kinds.proofs.Climbing.{up_type}
 use Rattle.hierarchy_text.specs.declared.entry.Entry.{Entry}
 use Rattle.hierarchy_text.specs.declared.judging.Objection.{Objection}
 use Rattle.hierarchy_text.specs.declared.judging.Objection.TheVariants as objection
-use Rattle.hierarchy_text.specs.Judging.{LeftOpen, NamesTypes, ground}
+use Rattle.hierarchy_text.specs.Judging.{LeftOpen, NamesTypes, misfit_of}
 use Rattle.hierarchy_text.specs.Sheets.{Few, Marked}
 
 module _ (n : ℕ) (links : List Link) (marks : ℕ) (few : Few n) (up : AllUpward n links) where
@@ -46,7 +46,7 @@ module _ (n : ℕ) (links : List Link) (marks : ℕ) (few : Few n) (up : AllUpwa
   left_open linked (NoGreatest a b) r = tt
   left_open linked (WrongMark t) r = tt
 
-  pub names_types : (es : List Entry) → ∥ Marked es n marks ∥₁ → (o : Objection) → Refused n links marks (ground o) → NamesTypes n o
+  pub names_types : (es : List Entry) → ∥ Marked es n marks ∥₁ → (o : Objection) → Refused n links marks (misfit_of o) → NamesTypes n o
   names_types es m (objection.NoGreatest a b) r = pair_named a b r
   names_types es m (objection.WrongMark t) r = mark_named es m t r
 

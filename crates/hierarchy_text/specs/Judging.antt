@@ -9,9 +9,9 @@ use Rattle.hierarchy_text.specs.declared.judging.Objection.{Objection}
 use Rattle.hierarchy_text.specs.declared.judging.Objection.TheVariants.{NoGreatest, WrongMark}
 
 -- the ground to refuse a filling that an objection is
-abbrev pub ground : Objection → Misfit
-ground (NoGreatest a b) = misfit.NoGreatest a b
-ground (WrongMark t) = misfit.WrongMark t
+abbrev pub misfit_of : Objection → Misfit
+misfit_of (NoGreatest a b) = misfit.NoGreatest a b
+misfit_of (WrongMark t) = misfit.WrongMark t
 
 -- the grounds that a hierarchy can still be refused on when it is read: its types are counted, and all links are there and go up
 abbrev pub LeftOpen : Misfit → Type 0
@@ -30,4 +30,4 @@ NamesTypes n (WrongMark t) = t < n
 abbrev pub Judged : ℕ → List Link → ℕ → Result Types Objection → Type 0
 Judged n links marks r =
     MatchResult r (λ types. Accepted n links marks × Described n links marks (meaning_of types))
-    (λ o. Refused n links marks (ground o) × NamesTypes n o)
+    (λ o. Refused n links marks (misfit_of o) × NamesTypes n o)

@@ -1,6 +1,6 @@
 // What a hierarchy that is written well comes to.
 ghost use Rattle.std.specs.Prelude.{◌≡◌, vec_len};
-ghost use Rattle.hierarchy_text.specs.Judging.{Judged, LeftOpen, ground};
+ghost use Rattle.hierarchy_text.specs.Judging.{Judged, LeftOpen, misfit_of};
 
 use crate::sheet::Sheet;
 use kinds::types::{Misfit, Types};
@@ -30,7 +30,7 @@ impl Sheet {
 // The objection of one of the grounds that reading leaves open.
 fn objection_of(misfit: Misfit) -> Objection
     requires { LeftOpen misfit }
-    ensures { ground result ≡ misfit }
+    ensures { misfit_of result ≡ misfit }
 {
     match misfit {
         Misfit::NoGreatest(a, b) => Objection::NoGreatest(a, b),

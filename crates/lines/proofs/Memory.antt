@@ -12,7 +12,7 @@ use Rattle.features.specs.Listing.{written}
 use Rattle.features.specs.Terms as terms
 use Rattle.features.proofs.Bytes.{attributes_bound, count_bound, listing_length}
 use Rattle.answers.specs.Answers as answers
-use Rattle.answers.specs.Answers.{first_of, above_31, term_fault, pair_fault, terms_fault, value_fault, full_fault, fault, Right}
+use Rattle.answers.specs.Answers.{first_refusal, above_31, term_fault, pair_fault, terms_fault, value_fault, full_fault, fault, Right}
 use Rattle.answers.specs.Runs.{Has}
 use Rattle.answers.specs.declared.refusal.Refusal.{Refusal}
 use Rattle.answers.specs.declared.refusal.Refusal.TheVariants.{Undeclared, LongTerm, NoAttribute, NoSuchValue, ShortTrail, ApartsFull}
@@ -25,7 +25,7 @@ use Rattle.lines.specs.Responses.{call_of}
 use Rattle.lines.specs.Theorems.{Roomy, MemorySuffices}
 use Rattle.lines.specs.declared.responder.Responder.{Responder}
 
-first_roomy : (a b : Option Refusal) → Roomy a → Roomy b → Roomy (first_of a b)
+first_roomy : (a b : Option Refusal) → Roomy a → Roomy b → Roomy (first_refusal a b)
 first_roomy none b p q = q
 first_roomy (some r) b p q = p
 
@@ -41,7 +41,7 @@ module _ (vars : ℕ) where
   term_roomy : (side : ℕ) (t : terms.Term) → Roomy (term_fault vars side t)
   term_roomy side t =
       let long : Option Refusal = cond (leb (length t.path) 8) none (some (LongTerm side)) in
-      first_roomy (cond (ltb t.var vars) none (some (Undeclared side))) (first_of long (above_31 side 0 t.path))
+      first_roomy (cond (ltb t.var vars) none (some (Undeclared side))) (first_refusal long (above_31 side 0 t.path))
       (cond_roomy (ltb t.var vars) none (some (Undeclared side)) tt tt)
       (first_roomy long (above_31 side 0 t.path) (cond_roomy (leb (length t.path) 8) none (some (LongTerm side)) tt tt) (above_roomy side 0 t.path))
 
@@ -70,8 +70,8 @@ module _ (vars : ℕ) where
     fault_roomy : (s : terms.Statement) (room : ℕ) → 272 ≤ room → Roomy (fault m vars said s room)
     fault_roomy s room l =
         let trail : Option Refusal = cond (ltb room 272) (some ShortTrail) none in
-        first_roomy (terms_fault vars s) (first_of (value_fault m s) (first_of trail (full_fault said s))) (terms_roomy s)
-        (first_roomy (value_fault m s) (first_of trail (full_fault said s)) (value_roomy s) (first_roomy trail (full_fault said s) (trail_roomy room l) (full_roomy s)))
+        first_roomy (terms_fault vars s) (first_refusal (value_fault m s) (first_refusal trail (full_fault said s))) (terms_roomy s)
+        (first_roomy (value_fault m s) (first_refusal trail (full_fault said s)) (value_roomy s) (first_roomy trail (full_fault said s) (trail_roomy room l) (full_roomy s)))
 
     closed_roomy : {before after : List ℕ} {r : Result (Unit {0}) Refusal} → answers.Closed m vars said before r after → Roomy (error r)
     closed_roomy (answers.no_value t f) = tt

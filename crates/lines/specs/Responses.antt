@@ -34,7 +34,7 @@ pub record Called (s : Responder) (c : Command) (before after : List ℕ) (t : R
 
 -- too little room for what may be printed
 abbrev pub no_room : RefusedLine
-no_room = record { ground = Ground.Call (ShortBuffer 54877); printed = 0 }
+no_room = record { cause = Ground.Call (ShortBuffer 54877); printed = 0 }
 
 -- s and t hold the session before and after the line, and `before` and `after` are what the buffer holds
 pub data Responds (s : Responder) (line before after : List ℕ) (t : Responder) : Result ℕ RefusedLine → Type 0 where

@@ -8,7 +8,7 @@ ghost use Rattle.lines.specs.Responses.{Called};
 use crate::responder::Responder;
 use kinds::atoms::Atoms;
 use notation::path::Path;
-use printing::answers::{
+use printing::answering::{
     print_listing, print_sameness, print_statement, print_value, print_variable,
 };
 use printing::outcome::RefusedLine;

@@ -8,7 +8,7 @@ use crate::responder::Responder;
 use answers::refusal::Refusal;
 use notation::command::Command;
 use notation::read;
-use printing::answers::print_malformed;
+use printing::answering::print_malformed;
 use printing::outcome::{Ground, ROOM, RefusedLine};
 
 impl Responder {
@@ -36,7 +36,7 @@ impl Responder {
     {
         if out.len() < ROOM {
             return Err(RefusedLine {
-                ground: Ground::Call(Refusal::ShortBuffer(ROOM)),
+                cause: Ground::Call(Refusal::ShortBuffer(ROOM)),
                 printed: 0,
             });
         }

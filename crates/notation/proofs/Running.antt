@@ -1,7 +1,7 @@
 -- The machine comes from the start to each reading by just the reading's text, and over each line to the line's command.
 use Rattle.std.proofs.Common.{◌≡◌, ℕ, ◌+◌, ◌*◌, ◌/◌, ◌%◌, ◌^◌, ◌<◌, ◌≤◌, List, [], ◌∷◌, ◌++◌, Some, None, decimal, Option, sym, refl, ap, ◌∙◌, append_assoc, append-nil, arith}
 use Rattle.std.specs.Option.{option_map}
-use Rattle.std.specs.List.{AllByRecursion as All}
+use Rattle.std.specs.List.{AllByRecursion}
 use Rattle.std.proofs.lemmas.Fmt.{decimal_by_steps}
 use Rattle.features.specs.Terms.{Term}
 use Rattle.notation.specs.Notation.{Command, declare, equals, is, apart, same, value, list, space, point, written, written_path, written_term, Sized, InRange, Writes, OneCommand}
@@ -46,7 +46,7 @@ record Ends (o : Operand) (from : Reading) (bytes rest : List ℕ) (t : Term) : 
   whole : closed stem last ≡ t
   runs : run (Some from) (bytes ++ rest) ≡ run (Some (within_term o stem (Some last))) rest
 
-run_path : (o : Operand) (path : List ℕ) → All (λ a. a < 2 ^ 16) path → (stem : Option Term) (n : ℕ) (rest : List ℕ) → Ends o (within_term o stem (Some n)) (written_path path) rest (extended (closed stem n) path)
+run_path : (o : Operand) (path : List ℕ) → AllByRecursion (λ a. a < 2 ^ 16) path → (stem : Option Term) (n : ℕ) (rest : List ℕ) → Ends o (within_term o stem (Some n)) (written_path path) rest (extended (closed stem n) path)
 unfolding extended
 run_path o [] h stem n rest =
     let t = closed stem n in

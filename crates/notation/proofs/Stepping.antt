@@ -1,7 +1,7 @@
 -- One byte more: the machine goes on to the longer text where a line begins so, and stops where none does.
 use Rattle.std.proofs.Common.{◌≡◌, ℕ, ◌+◌, ◌*◌, ◌/◌, ◌%◌, ◌^◌, ◌<◌, ◌≤◌, true, ◌&&◌, ltb, List, [], ◌∷◌, ◌++◌, length, IfSome, Some, None, decimal, Option, sym, refl, ap, ◌∙◌, subst, append_assoc, append-nil, arith, length-append, MatchOption}
 use Rattle.std.specs.Option.{option_map}
-use Rattle.std.specs.List.{AllByRecursion as All}
+use Rattle.std.specs.List.{AllByRecursion}
 use Rattle.std.proofs.lemmas.Fmt.{decimal_digit, decimal_step, decimal_nonempty}
 use Rattle.std.proofs.ByRecursion.{All-push}
 use Rattle.std.proofs.lemmas.Bool.{cond_both, and_parts, ltb-true}
@@ -209,7 +209,7 @@ ends s h = go (command s) refl (said s h)
     go (Some c) says m = m
 
 -- each attribute took two bytes at least
-path_bytes : (path : List ℕ) → All (λ a. a < 2 ^ 16) path → 2 * length path ≤ length (written_path path)
+path_bytes : (path : List ℕ) → AllByRecursion (λ a. a < 2 ^ 16) path → 2 * length path ≤ length (written_path path)
 path_bytes [] h = omega arith
 path_bytes (a ∷ path) h = omega (arith, length-append (decimal a) (written_path path), decimal_nonempty a (omega (arith, h.0)), path_bytes path h.1)
 

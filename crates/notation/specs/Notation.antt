@@ -1,6 +1,6 @@
 -- The notation: which lines there are, and the command that each writes.
 use Rattle.std.specs.Prelude.{◌≡◌, ℕ, ◌^◌, ◌<◌, List, [], ◌∷◌, ◌++◌, decimal}
-use Rattle.std.specs.List.{AllByRecursion as All}
+use Rattle.std.specs.List.{AllByRecursion}
 use Rattle.features.specs.Terms.{Term}
 
 -- a call of a session with its operands
@@ -44,7 +44,7 @@ written list = 108 ∷ []
 -- variables and attributes have 16 bits, values 64
 pub record Sized (t : Term) : Type 0 where
   pub var : t.var < 2 ^ 16
-  pub path : All (λ a. a < 2 ^ 16) t.path
+  pub path : AllByRecursion (λ a. a < 2 ^ 16) t.path
 
 abbrev pub InRange : Command → Type 0
 InRange declare = Unit {0}

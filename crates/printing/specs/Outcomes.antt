@@ -15,16 +15,16 @@ size (Err e) = e.printed
 
 abbrev pub ground_of : Result ℕ RefusedLine → Option Ground
 ground_of (Ok n) = none
-ground_of (Err e) = some e.ground
+ground_of (Err e) = some e.cause
 
 abbrev pub by_call : Option Refusal → Option Ground
 by_call none = none
 by_call (some r) = some (Ground.Call r)
 
 -- the text stands at the front of the buffer, and what follows it is as it was; the outcome says how long it is, and why it is a refusal, where it is one
-pub record Printed (text : List ℕ) (ground : Option Ground) (before after : List ℕ) (r : Result ℕ RefusedLine) : Type 0 where
+pub record Printed (text : List ℕ) (cause : Option Ground) (before after : List ℕ) (r : Result ℕ RefusedLine) : Type 0 where
   pub bytes : Fitted text before after (size r)
-  pub why : ground_of r ≡ ground
+  pub why : ground_of r ≡ cause
 
 -- an answer was printed
 abbrev pub AnswerPrinted : Answer → List ℕ → List ℕ → Result ℕ RefusedLine → Type 0

@@ -1,7 +1,7 @@
 // What answers look like in print, put into a buffer.
 #![tactic(auto)]
 
-pub mod answers;
+pub mod answering;
 mod hexadecimal;
 mod numbers;
 pub mod outcome;

@@ -15,7 +15,7 @@ pub enum Ground {
 // A refusal, and how many bytes were printed of it.
 #[derive(Clone, Copy, PartialEq, Eq, Debug)]
 pub struct RefusedLine {
-    pub ground: Ground,
+    pub cause: Ground,
     pub printed: usize,
 }
 

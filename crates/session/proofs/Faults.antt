@@ -7,7 +7,7 @@ use Rattle.features.specs.Terms.{Term, Statement, apart}
 use Rattle.features.specs.Holding.{Sound, Small, end, also, aparts_of}
 use Rattle.answers.specs.declared.refusal.Refusal.{Refusal}
 use Rattle.answers.specs.declared.refusal.Refusal.TheVariants.{Undeclared, LongTerm, NoAttribute, ShortTrail, ApartsFull}
-use Rattle.answers.specs.Answers.{first_of, above_31, term_fault, pair_fault, full_fault, fault}
+use Rattle.answers.specs.Answers.{first_refusal, above_31, term_fault, pair_fault, full_fault, fault}
 use Rattle.tables.proofs.Walking.{rest_is, nowhere}
 
 module _ (side at : ℕ) (xs : List ℕ) where
@@ -35,7 +35,7 @@ none_above side at (a ∷ rest) e =
     ]
 
 -- where nothing is at fault, neither part is
-none_first : (a b : Option Refusal) → first_of a b ≡ none → (a ≡ none) × (b ≡ none)
+none_first : (a b : Option Refusal) → first_refusal a b ≡ none → (a ≡ none) × (b ≡ none)
 none_first none b e = (refl, e)
 none_first (some r) b e = absurd (nowhere (some r) e refl)
 
@@ -60,7 +60,7 @@ faultless_pair vars p q e = let both = none_first (term_fault vars 0 p) (term_fa
 -- the first thing at fault with an apart, in the order in which it is looked for
 module _ (m : Meaning) (vars : ℕ) (said : List Statement) (p q : Term) (room : ℕ) where
   abbrev past_terms : Option Refusal → Option Refusal
-  past_terms o = first_of o (first_of (cond (ltb room 272) (some ShortTrail) none) (full_fault said (apart p q)))
+  past_terms o = first_refusal o (first_refusal (cond (ltb room 272) (some ShortTrail) none) (full_fault said (apart p q)))
 
   pub apart_terms : (o : Option Refusal) → pair_fault vars p q ≡ o → fault m vars said (apart p q) room ≡ past_terms o
   apart_terms o e = ap past_terms e
@@ -68,12 +68,12 @@ module _ (m : Meaning) (vars : ℕ) (said : List Statement) (p q : Term) (room :
   module _ (terms : pair_fault vars p q ≡ none) where
     pub apart_short_trail : room < 272 → fault m vars said (apart p q) room ≡ some ShortTrail
     apart_short_trail l =
-        apart_terms none terms ∙ ap (λ (b : Bool). first_of (cond b (some ShortTrail) none) (full_fault said (apart p q))) (lt-ltb room 272 l)
+        apart_terms none terms ∙ ap (λ (b : Bool). first_refusal (cond b (some ShortTrail) none) (full_fault said (apart p q))) (lt-ltb room 272 l)
 
     module _ (long : 272 ≤ room) where
       past_trail : fault m vars said (apart p q) room ≡ full_fault said (apart p q)
       past_trail =
-          apart_terms none terms ∙ ap (λ (b : Bool). first_of (cond b (some ShortTrail) none) (full_fault said (apart p q))) (le-ltb room 272 long)
+          apart_terms none terms ∙ ap (λ (b : Bool). first_refusal (cond b (some ShortTrail) none) (full_fault said (apart p q))) (le-ltb room 272 long)
 
       pub aparts_full : 128 ≤ length (aparts_of said) → fault m vars said (apart p q) room ≡ some ApartsFull
       aparts_full full = past_trail ∙ cond-false (ltb (length (aparts_of said)) 128) none (some ApartsFull) (le-ltb (length (aparts_of said)) 128 full)

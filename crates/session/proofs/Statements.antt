@@ -14,7 +14,7 @@ use Rattle.closing.specs.declared.closer.Closer.{Closer}
 use Rattle.closing.specs.Closings.{Arranged, closed_graph, closed_state}
 use Rattle.answers.specs.declared.refusal.Refusal.{Refusal}
 use Rattle.answers.specs.declared.refusal.Refusal.TheVariants.{NoSuchValue, ShortTrail}
-use Rattle.answers.specs.Answers.{first_of, pair_fault, term_fault, value_fault, fault, Closed, Stated, faultless, stated, state, states}
+use Rattle.answers.specs.Answers.{first_refusal, pair_fault, term_fault, value_fault, fault, Closed, Stated, faultless, stated, state, states}
 use Rattle.answers.specs.Runs.{asked, Has, Step}
 use Rattle.answers.proofs.Keeping.{step_taken}
 use Rattle.session.specs.Judging.{Ready}
@@ -29,7 +29,7 @@ same_aparts (apart p q ∷ rest) s e = ap {B = List Statement} (λ r. apart p q 
 -- what is wrong with a statement that is no apart: its terms, its value, its trail
 module _ (m : Meaning) (vars : ℕ) (said : List Statement) (room : ℕ) where
   abbrev past_terms : Statement → Option Refusal → Option Refusal
-  past_terms s o = first_of o (first_of (value_fault m s) (first_of (cond (ltb room 272) (some ShortTrail) none) none))
+  past_terms s o = first_refusal o (first_refusal (value_fault m s) (first_refusal (cond (ltb room 272) (some ShortTrail) none) none))
 
   pub equation_terms : (p q : Term) (o : Option Refusal) → pair_fault vars p q ≡ o → fault m vars said (equals p q) room ≡ past_terms (equals p q) o
   equation_terms p q o e = ap (past_terms (equals p q)) e
@@ -37,20 +37,20 @@ module _ (m : Meaning) (vars : ℕ) (said : List Statement) (room : ℕ) where
   pub value_terms : (p : Term) (v : ℕ) (o : Option Refusal) → term_fault vars 0 p ≡ o → fault m vars said (is p v) room ≡ past_terms (is p v) o
   value_terms p v o e = ap (past_terms (is p v)) e
 
-  pub short_trail : room < 272 → first_of (cond (ltb room 272) (some ShortTrail) none) none ≡ some ShortTrail
-  short_trail l = ap (λ (b : Bool). first_of (cond b (some ShortTrail) none) none) (lt-ltb room 272 l)
+  pub short_trail : room < 272 → first_refusal (cond (ltb room 272) (some ShortTrail) none) none ≡ some ShortTrail
+  short_trail l = ap (λ (b : Bool). first_refusal (cond b (some ShortTrail) none) none) (lt-ltb room 272 l)
 
-  pub long_trail : 272 ≤ room → first_of (cond (ltb room 272) (some ShortTrail) none) none ≡ none
-  long_trail l = ap (λ (b : Bool). first_of (cond b (some ShortTrail) none) none) (le-ltb room 272 l)
+  pub long_trail : 272 ≤ room → first_refusal (cond (ltb room 272) (some ShortTrail) none) none ≡ none
+  long_trail l = ap (λ (b : Bool). first_refusal (cond b (some ShortTrail) none) none) (le-ltb room 272 l)
 
   -- and of a value
   pub no_value_there : (p : Term) (v : ℕ) → term_fault vars 0 p ≡ none → m.value v ≡ false → fault m vars said (is p v) room ≡ some NoSuchValue
   no_value_there p v e f =
-      value_terms p v none e ∙ ap (λ (b : Bool). first_of (cond b none (some NoSuchValue)) (first_of (cond (ltb room 272) (some ShortTrail) none) none)) f
+      value_terms p v none e ∙ ap (λ (b : Bool). first_refusal (cond b none (some NoSuchValue)) (first_refusal (cond (ltb room 272) (some ShortTrail) none) none)) f
 
-  pub value_there : (p : Term) (v : ℕ) (o : Option Refusal) → term_fault vars 0 p ≡ none → m.value v ≡ true → first_of (cond (ltb room 272) (some ShortTrail) none) none ≡ o → fault m vars said (is p v) room ≡ o
+  pub value_there : (p : Term) (v : ℕ) (o : Option Refusal) → term_fault vars 0 p ≡ none → m.value v ≡ true → first_refusal (cond (ltb room 272) (some ShortTrail) none) none ≡ o → fault m vars said (is p v) room ≡ o
   value_there p v o e f t =
-      value_terms p v none e ∙ ap (λ (b : Bool). first_of (cond b none (some NoSuchValue)) (first_of (cond (ltb room 272) (some ShortTrail) none) none)) f ∙ t
+      value_terms p v none e ∙ ap (λ (b : Bool). first_refusal (cond b none (some NoSuchValue)) (first_refusal (cond (ltb room 272) (some ShortTrail) none) none)) f ∙ t
 
 module _ {S : Type 0} (graph : S → Graph) (kept : S → List Statement) (m : Meaning) (lawful : Lawful m) (s t : S) where
   -- refused: what was held is held

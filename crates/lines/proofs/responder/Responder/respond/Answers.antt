@@ -27,6 +27,6 @@ returns-in-Err c =
     record {
       responds =
           unread why (omega (arith, c.if-out-lt-ROOM.false)) c.in-Err.ensures refl
-          (record { bytes = bytes; why = ap (λ (g : Ground). some g) c.print_malformed.ensures.ground });
+          (record { bytes = bytes; why = ap (λ (g : Ground). some g) c.print_malformed.ensures.cause });
       within = fits (malformed_text why) c.args.out.now c.print_malformed.new.out c.print_malformed.result.printed bytes;
     }

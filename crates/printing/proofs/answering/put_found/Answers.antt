@@ -4,7 +4,7 @@ use Rattle.listings.proofs.Placing.{placed_append}
 use Rattle.printing.specs.Texts.{line_end, found_text}
 use Rattle.printing.proofs.Accepted.{fitted}
 use Rattle.printing.proofs.Bounds.{value_fits}
-use Rattle.printing.proofs.answers.put_found.Goals as goal
+use Rattle.printing.proofs.answering.put_found.Goals as goal
 
 pub put_decimal-at-requires : goal.put_decimal-at-requires
 put_decimal-at-requires c =

@@ -6,7 +6,7 @@ use Rattle.printing.specs.Texts.{hexadecimal, answer_text, error}
 use Rattle.printing.proofs.Accepted.{fitted, accepted}
 use Rattle.printing.proofs.Flat.{take_capped}
 use Rattle.printing.proofs.Hex.{hexadecimal_fits}
-use Rattle.printing.proofs.answers.print_listing.Goals as goal
+use Rattle.printing.proofs.answering.print_listing.Goals as goal
 
 pub put_hexadecimal-requires : goal.put_hexadecimal-requires
 put_hexadecimal-requires c =

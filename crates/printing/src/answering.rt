@@ -18,11 +18,11 @@ use notation::malformed::Malformed;
 fn refuse(out: &mut [u8], refusal: Refusal, trail: &[u16]) -> RefusedLine
     requires room { 54877 ≤ length out.old }
     requires short { length trail.now ≤ 272 }
-    ensures ground { result.ground ≡ grounds.Ground.Call refusal }
+    ensures cause { result.cause ≡ grounds.Ground.Call refusal }
     ensures bytes { Fitted (refusal_text trail.now refusal) out.old out.new result.printed }
 {
     RefusedLine {
-        ground: Ground::Call(refusal),
+        cause: Ground::Call(refusal),
         printed: put_refusal(out, refusal, trail),
     }
 }
@@ -117,11 +117,11 @@ pub fn print_listing(
 // A refusal before the call.
 pub fn print_malformed(out: &mut [u8], why: Malformed) -> RefusedLine
     requires { 54877 ≤ length out.old }
-    ensures ground { result.ground ≡ grounds.Ground.Line why }
+    ensures cause { result.cause ≡ grounds.Ground.Line why }
     ensures bytes { Fitted (malformed_text why) out.old out.new result.printed }
 {
     RefusedLine {
-        ground: Ground::Line(why),
+        cause: Ground::Line(why),
         printed: put_malformed(out, why),
     }
 }

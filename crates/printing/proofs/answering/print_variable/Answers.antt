@@ -5,7 +5,7 @@ use Rattle.listings.proofs.Placing.{placed_append}
 use Rattle.printing.specs.Texts.{spaced, line_end, answer_text, error}
 use Rattle.printing.proofs.Accepted.{fitted, accepted}
 use Rattle.printing.proofs.Bounds.{number_fits}
-use Rattle.printing.proofs.answers.print_variable.Goals as goal
+use Rattle.printing.proofs.answering.print_variable.Goals as goal
 
 pub put_spaced-at-requires : goal.put_spaced-at-requires
 put_spaced-at-requires c =
