@@ -83,10 +83,14 @@ def renamings():
 
 
 def respell(text, names, answers=False):
-    """In a file of answers, what follows the record of a goal's facts is a step's name, which the check makes."""
+    """Names outside comments. In a file of answers, what follows the record of a goal's facts is a step's name, which the check makes."""
     made = r"(?<!\b[cwl]\.)" if answers else ""
     pattern = re.compile(rf"(?<![\w'\-]){made}({WORD})(?![\w'\-])")
-    return pattern.sub(lambda m: names.get(m.group(1), m.group(1)), text)
+    out = []
+    for line in text.splitlines(keepends=True):
+        code, dashes, comment = re.match(r"(|.*?(?<=\s))(--(?=\s)|$)(.*)", line, re.S).groups()
+        out.append(pattern.sub(lambda m: names.get(m.group(1), m.group(1)), code) + dashes + comment)
+    return "".join(out)
 
 
 def respell_code(text, names):

@@ -58,7 +58,7 @@ abbrev pub GivenBefore : ℕ → Mention → Type 0
 GivenBefore n (by_variable x) = Unit {0}
 GivenBefore n (by_attribute i a) = i < n
 
--- numbers are breadth_first where each node's first mention is sooner than the next one's
+-- numbers are breadth-first where each node's first mention is sooner than the next one's
 module _ (g : Graph) (firsts : ℕ → Mention) (next_later : (n : ℕ) → suc n < g.nodes → Sooner (firsts n) (firsts (suc n))) where
   firsts_rising : (n o : ℕ) → n < o → o < g.nodes → Sooner (firsts n) (firsts o)
   firsts_rising n zero h l = absurd (omega arith)

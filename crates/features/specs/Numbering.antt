@@ -36,11 +36,11 @@ pub record Inside (g : Graph) : Type 0 where
   pub edges : (n a t : ℕ) → n < g.nodes → g.edge n a ≡ some t → t < g.nodes
   pub roots : (x : ℕ) → x < g.vars → g.root x < g.nodes
 
--- breadth_first numbers are in listing order
+-- breadth-first numbers are in listing order
 abbrev pub BreadthFirstInOrder : Type 0
 BreadthFirstInOrder = (g : Graph) → Inside g → BreadthFirst g → InOrder g
 
--- numbers in listing order are breadth_first
+-- numbers in listing order are breadth-first
 abbrev pub InOrderBreadthFirst : Type 0
 InOrderBreadthFirst = (g : Graph) → Inside g → InOrder g → BreadthFirst g
 

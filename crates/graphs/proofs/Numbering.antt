@@ -1,4 +1,4 @@
--- Nodes numbered mention by mention: that keeps, is breadth_first at the end, and leaves no other choice.
+-- Nodes numbered mention by mention: that keeps, is breadth-first at the end, and leaves no other choice.
 use Rattle.std.proofs.Common.{◌≡◌, ℕ, ◌+◌, ◌<◌, ◌≤◌, ◌⊎◌, refl, ap, subst, inl, inr, arith}
 use mathlib.Core.Option.{some}
 use native.Mathlib.Decide.{dec_lt}
@@ -84,7 +84,7 @@ module _ (g : Graph) where
     rising = λ n o k l h i. s.rising n o k l h (omega arith);
   }
 
-  -- in a breadth_first numbering
+  -- in a breadth-first numbering
   module _ (bf : BreadthFirst g) where
     -- the next mention is of a node that has its number, or of the next
     pub mentioned_next : (c : Mention) (n next : ℕ) → n < g.nodes → Mentions g n c → NumberedUpTo g c next → next < n → ⊥
