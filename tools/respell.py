@@ -88,8 +88,9 @@ def respell(text, names, answers=False):
     pattern = re.compile(rf"(?<![\w'\-]){made}({WORD})(?![\w'\-])")
     out = []
     for line in text.splitlines(keepends=True):
-        code, dashes, comment = re.match(r"(|.*?(?<=\s))(--(?=\s)|$)(.*)", line, re.S).groups()
-        out.append(pattern.sub(lambda m: names.get(m.group(1), m.group(1)), code) + dashes + comment)
+        comment = re.search(r"(?:^|(?<=\s))--(?=\s)", line)
+        end = comment.start() if comment else len(line)
+        out.append(pattern.sub(lambda m: names.get(m.group(1), m.group(1)), line[:end]) + line[end:])
     return "".join(out)
 
 
