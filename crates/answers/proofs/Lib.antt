@@ -1,4 +1,5 @@
 pub mod Counting
+pub mod Faults
 pub mod Declaring
 pub mod Answering
 pub mod Keeping

@@ -10,6 +10,7 @@ use Rattle.features.specs.Closing.{Joined, Valued}
 use Rattle.features.specs.Holding.{Holds, Listed, aparts_of}
 use Rattle.features.specs.Clashes.{NoValue, LeafBranches, FirstAt, Nowhere, Broken}
 use Rattle.features.specs.Theorems.{NoClash}
+use Rattle.answers.specs.declared.refusal.Side.{Side}
 use Rattle.answers.specs.declared.refusal.Refusal.{Refusal}
 use Rattle.answers.specs.declared.refusal.Refusal.TheVariants.{Undeclared, LongTerm, NoAttribute, NoSuchValue, ShortTrail, ApartsFull, ValueClash, LeafClash, ApartClash, VariablesFull, NodesFull, ShortBuffer}
 
@@ -19,23 +20,23 @@ first_refusal none b = b
 first_refusal (some r) b = some r
 
 -- the first attribute above 31, by its position
-abbrev pub above_31 : ℕ → ℕ → List ℕ → Option Refusal
+abbrev pub above_31 : Side → ℕ → List ℕ → Option Refusal
 above_31 side at [] = none
 above_31 side at (a ∷ rest) = cond (nat_lt 31 a) (some (NoAttribute side at)) (above_31 side (suc at) rest)
 
 -- what is wrong with one term, where anything is
-abbrev pub term_fault : ℕ → ℕ → Term → Option Refusal
+abbrev pub term_fault : ℕ → Side → Term → Option Refusal
 term_fault vars side t =
     first_refusal (cond (nat_lt t.var vars) none (some (Undeclared side)))
     (first_refusal (cond (nat_le (length t.path) 8) none (some (LongTerm side))) (above_31 side 0 t.path))
 
 -- and with two, the left one first
 abbrev pub pair_fault : ℕ → Term → Term → Option Refusal
-pair_fault vars p q = first_refusal (term_fault vars 0 p) (term_fault vars 1 q)
+pair_fault vars p q = first_refusal (term_fault vars Side.Left p) (term_fault vars Side.Right q)
 
 abbrev pub terms_fault : ℕ → Statement → Option Refusal
 terms_fault vars (equals p q) = pair_fault vars p q
-terms_fault vars (is p v) = term_fault vars 0 p
+terms_fault vars (is p v) = term_fault vars Side.Left p
 terms_fault vars (apart p q) = pair_fault vars p q
 
 abbrev pub value_fault : Meaning → Statement → Option Refusal
@@ -99,9 +100,9 @@ pub data Same (vars : ℕ) (said : List Statement) (p q : Term) : Result Bool Re
   not_one : pair_fault vars p q ≡ none → (Joined vars said p q → ⊥) → Same vars said p q (Ok false)
 
 pub data Value (m : Meaning) (vars : ℕ) (said : List Statement) (p : Term) : Result (rust.Option ℕ) Refusal → Type 0 where
-  faulty : {r : Refusal} → term_fault vars 0 p ≡ some r → Value m vars said p (Err r)
-  valued : (v : ℕ) → term_fault vars 0 p ≡ none → Joined vars said p p → Valued m vars said p v → Value m vars said p (Ok (rust_option.Some v))
-  nothing : term_fault vars 0 p ≡ none → (Joined vars said p p → ⊥) → Value m vars said p (Ok rust_option.None)
+  faulty : {r : Refusal} → term_fault vars Side.Left p ≡ some r → Value m vars said p (Err r)
+  valued : (v : ℕ) → term_fault vars Side.Left p ≡ none → Joined vars said p p → Valued m vars said p v → Value m vars said p (Ok (rust_option.Some v))
+  nothing : term_fault vars Side.Left p ≡ none → (Joined vars said p p → ⊥) → Value m vars said p (Ok rust_option.None)
 
 pub data Listing (m : Meaning) (vars : ℕ) (said : List Statement) (before : List ℕ) : Result ℕ Refusal → List ℕ → Type 0 where
   short : (bytes : List ℕ) → Listed m vars said bytes → length before < length bytes → Listing m vars said before (Err (ShortBuffer (length bytes))) before

@@ -1,7 +1,13 @@
--- The number of each refusal, and which of them are clashes.
+-- The numbers of sides and of refusals, and which refusals are clashes.
 use Rattle.std.specs.Prelude.{ℕ, Ok, Err, Result}
+use Rattle.answers.specs.declared.refusal.Side.{Side}
+use Rattle.answers.specs.declared.refusal.Side.TheVariants.{Left, Right}
 use Rattle.answers.specs.declared.refusal.Refusal.{Refusal}
 use Rattle.answers.specs.declared.refusal.Refusal.TheVariants.{Undeclared, LongTerm, NoAttribute, NoSuchValue, ShortTrail, ApartsFull, ValueClash, LeafClash, ApartClash, VariablesFull, NodesFull, ShortBuffer}
+
+abbrev pub side_number : Side → ℕ
+side_number Left = 0
+side_number Right = 1
 
 abbrev pub number : Refusal → ℕ
 number (Undeclared side) = 1

@@ -1,18 +1,45 @@
 // The grounds on which a session refuses a call.
-ghost use Rattle.std.specs.Prelude.{◌≡◌, T, ◌↔◌};
-ghost use Rattle.answers.specs.Refusals.{number, Clash};
+ghost use Rattle.std.specs.Prelude.{◌≡◌, ◌↔◌, IsTrue};
+ghost use Rattle.answers.specs.Refusals.{side_number, number, Clash};
 
 use std::fmt;
 
-// Each case carries what it names. A side is 0 for the left term and 1 for the right; positions and places count from 0.
+// Which of the terms of a call: a lone term is the left one.
+#[derive(Clone, Copy, PartialEq, Eq, Debug)]
+pub enum Side {
+    Left,
+    Right,
+}
+
+impl Side {
+    pub fn number(&self) -> u8
+        ensures { result ≡ side_number self.now }
+    {
+        match self {
+            Side::Left => 0,
+            Side::Right => 1,
+        }
+    }
+}
+
+impl fmt::Display for Side {
+    fn fmt<W: fmt::Write>(&self, f: &mut fmt::Formatter<W>) -> fmt::Result {
+        match self {
+            Side::Left => write!(f, "left"),
+            Side::Right => write!(f, "right"),
+        }
+    }
+}
+
+// Each case carries what it names. Positions and places count from 0.
 #[derive(Clone, Copy, PartialEq, Eq, Debug)]
 pub enum Refusal {
     // the variable of a term is not declared: side
-    Undeclared(u8),
+    Undeclared(Side),
     // a term has more than 8 attributes: side
-    LongTerm(u8),
+    LongTerm(Side),
     // an attribute is above 31: side, first position
-    NoAttribute(u8, u16),
+    NoAttribute(Side, u16),
     // the number given as a value is no value of the kind
     NoSuchValue,
     // the trail has fewer than 272 entries
@@ -55,33 +82,24 @@ impl Refusal {
 
     // Whether the statements contradict one another, as against a call that is amiss or room that ran out.
     pub fn is_clash(&self) -> bool
-        ensures { T result ↔ Clash self.now }
+        ensures { IsTrue result ↔ Clash self.now }
     {
-        match self {
-            Refusal::ValueClash(_, _) | Refusal::LeafClash(_, _) | Refusal::ApartClash(_) => true,
-            _ => false,
-        }
+        matches!(
+            self,
+            Refusal::ValueClash(_, _) | Refusal::LeafClash(_, _) | Refusal::ApartClash(_)
+        )
     }
-}
-
-fn side_name(side: u8) -> &'static str {
-    if side == 0 { "left" } else { "right" }
 }
 
 impl fmt::Display for Refusal {
     fn fmt<W: fmt::Write>(&self, f: &mut fmt::Formatter<W>) -> fmt::Result {
         match *self {
             Refusal::Undeclared(side) => {
-                let name = side_name(side);
-                write!(f, "the variable of the {name} term is not declared")
+                write!(f, "the variable of the {side} term is not declared")
             }
-            Refusal::LongTerm(side) => {
-                let name = side_name(side);
-                write!(f, "the {name} term has more than 8 attributes")
-            }
+            Refusal::LongTerm(side) => write!(f, "the {side} term has more than 8 attributes"),
             Refusal::NoAttribute(side, position) => {
-                let name = side_name(side);
-                write!(f, "attribute {position} of the {name} term is above 31")
+                write!(f, "attribute {position} of the {side} term is above 31")
             }
             Refusal::NoSuchValue => write!(f, "no such value"),
             Refusal::ShortTrail => write!(f, "the trail has fewer than 272 entries"),

@@ -2,43 +2,31 @@
 ghost use Rattle.answers.specs.Theorems.{EquallyManyNodes, DeclaringNeverClashes, RightAnswersNeverClash, AnswersAreUnique, EveryRunKeepsItsPromise, ListedCanBeRead};
 
 // Two graphs that hold the same statements have equally many nodes.
-pub fn equally_many_nodes() -> u8
+pub fn equally_many_nodes()
     ensures { EquallyManyNodes }
-{
-    0
-}
+{}
 
 // One variable more brings no clash.
-pub fn declaring_never_clashes() -> u8
+pub fn declaring_never_clashes()
     ensures { DeclaringNeverClashes }
-{
-    0
-}
+{}
 
 // A right answer leaves no clash where there was none.
-pub fn right_answers_never_clash() -> u8
+pub fn right_answers_never_clash()
     ensures { RightAnswersNeverClash }
-{
-    0
-}
+{}
 
 // Every call has at most one right answer.
-pub fn answers_are_unique() -> u8
+pub fn answers_are_unique()
     ensures { AnswersAreUnique }
-{
-    0
-}
+{}
 
 // Calls that each keep their own promise keep that of whole runs.
-pub fn every_run_keeps_its_promise() -> u8
+pub fn every_run_keeps_its_promise()
     ensures { EveryRunKeepsItsPromise }
-{
-    0
-}
+{}
 
 // What is listed after a run can be read back, as a graph that holds what was said.
-pub fn listed_can_be_read() -> u8
+pub fn listed_can_be_read()
     ensures { ListedCanBeRead }
-{
-    0
-}
+{}

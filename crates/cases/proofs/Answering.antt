@@ -1,71 +1,47 @@
 -- What a drawing that stands for statements shows of them: which clash they have or that they have none, and so the right answer to a call.
-use Rattle.std.proofs.Common.{◌≡◌, ℕ, zero, suc, ◌<◌, ◌≤◌, Bool, true, false, cond, not, ltb, leb, ◌⊎◌, List, [], ◌∷◌, ◌++◌, length, Ok, Result, sym, refl, ap, ◌∙◌, subst, inl, inr, arith}
+use Rattle.std.proofs.Common.{◌≡◌, ℕ, zero, suc, ◌<◌, ◌≤◌, Bool, true, false, cond, not, ◌⊎◌, List, [], ◌∷◌, ◌++◌, length, Ok, Result, sym, refl, ap, ◌∙◌, subst, inl, inr, arith}
 use mathlib.Core.Option.{Option, some, none}
 use Rattle.std.specs.List.{AllByRecursion}
-use Rattle.std.proofs.ByRecursion.{All-get_or}
-use Rattle.std.proofs.lemmas.Bool.{ltb-true, ltb-false, leb-true, le-ltb, eq-eqb, not-true}
+use Rattle.std.proofs.lemmas.List.Elements.{All-from_recursion}
+use Rattle.std.proofs.lemmas.Bool.{le-ltb, eq-eqb, not-true}
 use Rattle.kinds.specs.Meaning.{Meaning, Lawful}
 use Rattle.features.specs.Terms.{Term, Statement, equals, is, apart, only, ◌▸◌}
 use Rattle.features.specs.Graphs.{Graph, Leads, here, Denotes}
 use Rattle.features.specs.Closing.{variable, Valued}
 use Rattle.features.specs.Order.{Before, ◌≺◌, Trail, InOrder}
-use Rattle.features.specs.Holding.{Holds, Small, end, also, Sound, Proper, aparts_of}
+use Rattle.features.specs.Holding.{Holds, Proper, aparts_of}
 use Rattle.features.specs.Clashes.{NoValue, FirstAt, Broken}
 use Rattle.features.specs.Theorems.{NoClash}
 use Rattle.features.proofs.Paths.{leads_same, leads_back, denotes_one}
-use Rattle.features.proofs.Closure.{broken_is, apart_said}
+use Rattle.features.proofs.Closure.{every_member, broken_is, apart_said}
 use Rattle.growth.specs.Standing.{Shape, Judged, greatest, void}
 use Rattle.growth.proofs.Holding.{standing_holds}
+use Rattle.answers.specs.declared.refusal.Side.{Side}
 use Rattle.answers.specs.declared.refusal.Refusal.{Refusal}
 use Rattle.answers.specs.declared.refusal.Refusal.TheVariants.{ShortTrail}
-use Rattle.answers.specs.Answers.{first_refusal, above_31, term_fault, terms_fault, value_fault, full_fault, fault, EveryNodeValued, EveryLeafBare, Nodes, Closed, declare, state, declares, states, Right}
+use Rattle.answers.specs.Answers.{first_refusal, terms_fault, value_fault, full_fault, fault, EveryNodeValued, EveryLeafBare, Nodes, Closed, declare, state, declares, states, Right}
 use Rattle.answers.specs.Answers.{accepted, faultless, numbered, declared, stated}
+use Rattle.answers.proofs.Faults.{none_first, passed, faultless_sound, faultless_pair}
 use Rattle.cases.proofs.Reaching.{reach, denotes_reach, reach_denotes}
-use Rattle.cases.proofs.Drawings.{Drawing, drawn, state_at, or_zero, Along, along_at, all_member, arrow_at, one_node, Certified, certified_shape, certified_stands}
+use Rattle.cases.proofs.Drawings.{Drawing, drawn, state_at, or_zero, Along, along_at, arrow_at, one_node, Certified, certified_shape, certified_stands}
 
 -- no fault, nor a second one
 none_of : (a b : Option Refusal) → a ≡ none → b ≡ none → first_refusal a b ≡ none
 none_of none b p q = q
 none_of (some r) b p q = absurd (let z : ◌≡◌ {A = ℕ} 0 1 = cc in omega arith)
 
-none_each : (a b : Option Refusal) → first_refusal a b ≡ none → (a ≡ none) × (b ≡ none)
-none_each none b e = (refl, e)
-none_each (some r) b e = absurd (let z : ◌≡◌ {A = ℕ} 0 1 = cc in omega arith)
-
-test_passed : (b : Bool) (r : Refusal) → cond b none (some r) ≡ none → b ≡ true
-test_passed true r e = refl
-test_passed false r e = absurd (let z : ◌≡◌ {A = ℕ} 0 1 = cc in omega arith)
-
-test_failed : (b : Bool) (r : Refusal) (o : Option Refusal) → cond b (some r) o ≡ none → (b ≡ false) × (o ≡ none)
-test_failed true r o e = absurd (let z : ◌≡◌ {A = ℕ} 0 1 = cc in omega arith)
-test_failed false r o e = (refl, e)
-
-small : (side at : ℕ) (xs : List ℕ) → above_31 side at xs ≡ none → Small xs
-small side at [] e = end
-small side at (a ∷ rest) e = let p = test_failed (ltb 31 a) _ (above_31 side (suc at) rest) e in also (omega (arith, ltb-false 31 a p.0)) (small side (suc at) rest p.1)
-
-sound : (vars side : ℕ) (t : Term) → term_fault vars side t ≡ none → Sound vars t
-sound vars side t e =
-    let p = none_each _ _ e in
-    let q = none_each _ _ p.1 in
-    record {
-      declared = ltb-true t.var vars (test_passed (ltb t.var vars) _ p.0);
-      short = leb-true (length t.path) 8 (test_passed (leb (length t.path) 8) _ q.0);
-      small = small side 0 t.path q.1;
-    }
-
 -- what is wrong with the terms and the value of a statement
 abbrev pub own_fault : Meaning → ℕ → Statement → Option Refusal
 own_fault m vars s = first_refusal (terms_fault vars s) (value_fault m s)
 
 proper : (m : Meaning) (vars : ℕ) (s : Statement) → own_fault m vars s ≡ none → Proper m vars s
-proper m vars (equals p q) e = let f = none_each _ _ (none_each _ _ e).0 in (sound vars 0 p f.0, sound vars 1 q f.1)
-proper m vars (is p v) e = let f = none_each _ _ e in (sound vars 0 p f.0, test_passed (m.value v) _ f.1)
-proper m vars (apart p q) e = let f = none_each _ _ (none_each _ _ e).0 in (sound vars 0 p f.0, sound vars 1 q f.1)
+proper m vars (equals p q) e = faultless_pair vars p q (none_first _ _ e).0
+proper m vars (is p v) e = let f = none_first _ _ e in (faultless_sound vars Side.Left p f.0, passed (m.value v) _ f.1)
+proper m vars (apart p q) e = faultless_pair vars p q (none_first _ _ e).0
 
 not_faulty : (m : Meaning) (vars : ℕ) (said : List Statement) (s : Statement) (room : ℕ) → 272 ≤ room → own_fault m vars s ≡ none → full_fault said s ≡ none → fault m vars said s room ≡ none
 not_faulty m vars said s room enough own full =
-    let f = none_each (terms_fault vars s) (value_fault m s) own in
+    let f = none_first (terms_fault vars s) (value_fault m s) own in
     none_of _ _ f.0 (none_of _ _ f.1 (none_of _ _ (ap (λ (b : Bool). cond b (some ShortTrail) none) (le-ltb room 272 enough)) full))
 
 abbrev pub there : Option ℕ → Bool
@@ -112,7 +88,7 @@ module _ {m : Meaning} (lawful : Lawful m) {vars : ℕ} {said : List Statement} 
     every_node_valued full t first nothing =
         let b = (certified_shape lawful c).joined t t first.denotes in
         value_there ((certified_stands lawful c).judged t b.0 b.1)
-        (All-get_or (λ o. there o ≡ true) d.states b.0 none ((certified_shape lawful c).inside t b.0 b.1) full) nothing
+        (All-from_recursion (λ o. there o ≡ true) d.states full b.0 none ((certified_shape lawful c).inside t b.0 b.1)) nothing
 
     -- no attribute on a leaf
     pub every_leaf_bare : AllByRecursion (λ e. leafy m (state_at d e.tail) ≡ false) d.arrows → EveryLeafBare m vars said
@@ -128,7 +104,7 @@ module _ {m : Meaning} (lawful : Lawful m) {vars : ℕ} {said : List Statement} 
         let p = r.0 in
         let q = r.1 in
         let b = (certified_shape lawful c).joined p q r.3 in
-        let two = not-true (one_node (reach (drawn d) p) (reach (drawn d) q)) (all_member (λ s. separate (drawn d) s ≡ true) said apart_all (apart_said said r.2)) in
+        let two = not-true (one_node (reach (drawn d) p) (reach (drawn d) q)) (every_member (λ s. separate (drawn d) s ≡ true) said apart_all _ (apart_said said r.2)) in
         let left = denotes_reach (drawn d) p b.0 b.1 in
         let right = denotes_reach (drawn d) q b.0 b.2 in
         let one : one_node (reach (drawn d) p) (reach (drawn d) q) ≡ true = ap (λ (o : Option ℕ). one_node o (reach (drawn d) q)) left ∙ ap (one_node (some b.0)) right ∙ eq-eqb b.0 b.0 refl in
@@ -139,8 +115,8 @@ module _ {m : Meaning} (lawful : Lawful m) {vars : ℕ} {said : List Statement} 
     pub full_holds : AllByRecursion (λ o. there o ≡ true) d.states → AllByRecursion (λ s. own_fault m vars s ≡ none) said → Holds m (drawn d) (aparts_of said) vars said
     full_holds full fine =
         standing_holds m (drawn d) (state_at d) (aparts_of said) vars said (certified_stands lawful c)
-        (λ n lt. there_some (state_at d n) (All-get_or (λ o. there o ≡ true) d.states n none lt full))
-        (λ s i. proper m vars s (all_member (λ s. own_fault m vars s ≡ none) said fine i)) refl
+        (λ n lt. there_some (state_at d n) (All-from_recursion (λ o. there o ≡ true) d.states full n none lt))
+        (λ s i. proper m vars s (every_member (λ s. own_fault m vars s ≡ none) said fine s i)) refl
 
 -- a drawing stands for statements, and they have no fault and no clash
 pub record Consistent (m : Meaning) (vars : ℕ) (said : List Statement) (d : Drawing) (names : List Term) : Type 0 where

@@ -2,7 +2,6 @@
 -- that closing joins with it, and on each node stands what the values said of it meet in.
 use Rattle.std.proofs.Common.{◌≡◌, ℕ, zero, suc, ◌<◌, Bool, true, false, cond, ◌&&◌, eqb, List, [], ◌∷◌, length, get_or, sym, refl, ap, subst, arith}
 use mathlib.Core.Option.{Option, some, none}
-use mathlib.Core.List.{Memᴰ}
 use Rattle.std.specs.List.{AllByRecursion}
 use Rattle.std.proofs.lemmas.Bool.{and_parts, eqb-true}
 use Rattle.kinds.specs.Meaning.{Meaning, Lawful, BelowAll, GreatestOfAll}
@@ -10,6 +9,7 @@ use Rattle.kinds.specs.Meets.{Apart}
 use Rattle.features.specs.Terms.{Term, Statement, equals, is, apart, only, ◌▸◌}
 use Rattle.features.specs.Graphs.{Graph, Leads, here, Denotes}
 use Rattle.features.specs.Closing.{Joined, turned, chained, beneath, Came, top, said_of, Under}
+use Rattle.features.proofs.Closure.{every_member}
 use Rattle.features.proofs.Paths.{leads_same, leads_back, leads_inside, denotes_one}
 use Rattle.features.proofs.Ordering.{Ended, empty, more, ended}
 use Rattle.growth.specs.Standing.{Shape, Judged, greatest, void, Stands}
@@ -56,11 +56,6 @@ pub along_at : {X : Type 0} (P : ℕ → X → Type 0) (xs : List X) (d : X) →
 along_at P [] d h i l = absurd (omega arith)
 along_at P (x ∷ xs) d h zero l = h.0
 along_at P (x ∷ xs) d h (suc i) l = along_at (λ i y. P (suc i) y) xs d h.1 i (omega arith)
-
-pub all_member : {X : Type 0} (P : X → Type 0) (xs : List X) → AllByRecursion P xs → {x : X} → Memᴰ x xs → P x
-all_member P [] h i = elim i [ ]
-all_member P (y ∷ xs) h (Memᴰ.head e) = subst P (sym e) h.0
-all_member P (y ∷ xs) h (Memᴰ.tail i) = all_member P xs h.1 i
 
 -- what holds of each arrow holds of each attribute
 pub arrow_at : (P : ℕ → ℕ → ℕ → Type 0) (arrows : List Arrow) → AllByRecursion (λ e. P e.tail e.attribute e.head) arrows → (n a t : ℕ) → target arrows n a ≡ some t → P n a t
@@ -137,7 +132,7 @@ module _ {m : Meaning} (lawful : Lawful m) {vars : ℕ} {said : List Statement} 
   pub certified_shape : Shape (drawn d) vars said
   certified_shape = record {
     all = c.all;
-    joined = λ p q j. agreeing_joins (drawn d) vars said (omega (arith, c.all)) (λ s i. agreed_there (drawn d) s (all_member (λ s. agreed (drawn d) s ≡ true) said c.agrees i)) j;
+    joined = λ p q j. agreeing_joins (drawn d) vars said (omega (arith, c.all)) (λ s i. agreed_there (drawn d) s (every_member (λ s. agreed (drawn d) s ≡ true) said c.agrees s i)) j;
     nothing_else = λ p q n a b.
         chained p (name names n) q (to_name (ended p.path) p.var n a.0 a.1)
         (turned q (name names n) (to_name (ended q.path) q.var n b.0 b.1));

@@ -3,6 +3,7 @@ use Rattle.std.proofs.Common.{◌≡◌, ℕ, ◌≤◌, true, List, [], ◌∷�
 use mathlib.Core.Option.{Option, some, none}
 use mathlib.Core.List.Memᴰ
 use Rattle.std.specs.List.{AllByRecursion}
+use Rattle.std.proofs.lemmas.List.Elements.{All-from_recursion}
 use Rattle.kinds.specs.Meaning.{Meaning, Lawful, GreatestOfAll}
 use Rattle.kinds.specs.Atoms.{atoms}
 use Rattle.kinds.specs.ValueSets.{value_sets}
@@ -13,7 +14,7 @@ use Rattle.features.specs.Closing.{Joined, variable, stated, given, turned}
 use Rattle.features.specs.Clashes.{LeafBranches, here}
 use Rattle.answers.specs.Answers.{same, not_one, value, valued, listed, put, no_value, leaf_branches, not_apart}
 use Rattle.answers.specs.Runs.{AllRight}
-use Rattle.cases.specs.Table.{new_session, looped, equal_values, leaf_with_attribute, apart_from_itself, clash_beneath, shared_sets, MarkedCases}
+use Rattle.cases.specs.Table.{new_session, looped, equal_values, leaf_with_attribute, apart_from_itself, clash_beneath, shared_sets, AsLaidDown, table, MarkedCases}
 use Rattle.cases.proofs.Reaching.{said_at, denotes_reach, reach_denotes}
 use Rattle.cases.proofs.Drawings.{Drawing, drawn, agreed, MeetIs, Certified, certified_shape}
 use Rattle.cases.proofs.Values.{atoms_lawful, none_said, one_said, five_six, three_six, three_six_four}
@@ -337,7 +338,7 @@ module _ (room : List ℕ) (enough : 272 ≤ length room) where
       )
 
 pub marked_cases : MarkedCases
-marked_cases room enough = (
+marked_cases room enough = All-from_recursion AsLaidDown (table room) (
   new_session_right room enough,
   (
     looped_right room enough,

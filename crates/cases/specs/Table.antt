@@ -1,6 +1,5 @@
 -- Marked cases as a table: calls of a session with the answers laid down for them, and a filling of types with its refusal.
-use Rattle.std.specs.Prelude.{ℕ, ◌≤◌, false, List, [], ◌∷◌, ◌++◌, length, drop, Some, Ok, Err}
-use Rattle.std.specs.List.{AllByRecursion}
+use Rattle.std.specs.Prelude.{ℕ, ◌≤◌, false, List, [], ◌∷◌, ◌++◌, length, drop, All, Some, Ok, Err}
 use Rattle.kinds.specs.declared.types.links.Link.{Link}
 use Rattle.kinds.specs.declared.types.misfit.Misfit.{Misfit}
 use Rattle.kinds.specs.declared.types.misfit.Misfit.TheVariants.{NoGreatest}
@@ -132,4 +131,4 @@ table room =
 -- Every row of the table is as laid down, whatever trails and buffers with room enough hold. A call has one right answer at most,
 -- so a session that answers right answers the calls of a row just so.
 abbrev pub MarkedCases : Type 0
-MarkedCases = (room : List ℕ) → 272 ≤ length room → AllByRecursion AsLaidDown (table room)
+MarkedCases = (room : List ℕ) → 272 ≤ length room → All AsLaidDown (table room)

@@ -1,18 +1,16 @@
 -- Where a leaf with an attribute stands in a closed graph.
-use Rattle.std.proofs.Common.{◌≡◌, ℕ, ◌^◌, ◌<◌, Bool, true, false, cond, ◌&&◌, ltb, get_or, vec_items, sym, refl, ap, ◌∙◌, arith}
+use Rattle.std.proofs.Common.{◌≡◌, ℕ, ◌^◌, ◌<◌, Bool, true, false, cond, get_or, vec_items, vec_len, sym, refl, ap, ◌∙◌, arith}
 use mathlib.Core.Option.{Option, some, none}
 use lib.Count.{count_trailing_zeros}
-use Rattle.std.proofs.lemmas.List.{get_or_read}
-use Rattle.std.proofs.lemmas.Bool.{both_ways, lt-ltb}
+use Rattle.std.proofs.lemmas.Bool.{both_ways}
 use Rattle.kinds.specs.Masks.{has}
 use Rattle.kinds.specs.Meaning.{Meaning}
-use Rattle.kinds.specs.BitSets.{has_none}
+use Rattle.kinds.specs.BitSets.{has_none, lowest_set}
 use Rattle.growth.specs.Joins.{LeafAt}
 use Rattle.tables.specs.declared.node.Node.{Node}
-use Rattle.tables.specs.Views.{row, blank, edge_of}
-use Rattle.tables.proofs.Known.{sound_known}
-use Rattle.tables.proofs.Leading.{present, absent, and_false}
-use Rattle.tables.proofs.LowestBits.{lowest_is}
+use Rattle.tables.specs.Views.{row, edge_of}
+use Rattle.tables.proofs.Leading.{shown_edge, not_present}
+use Rattle.tables.proofs.LowestBits.{trailing_below}
 use Rattle.closing.specs.declared.closer.Closer.{Closer}
 use Rattle.closing.specs.Closings.{Arranged, closed_graph, closed_state}
 
@@ -24,23 +22,14 @@ stood false v h = refl
 some_attribute : (r : Node) → (r.present ≡ 0 → ⊥) → r.present < 2 ^ 32
     → edge_of r (count_trailing_zeros 32 r.present) ≡ some (get_or r.targets (count_trailing_zeros 32 r.present) 0)
 some_attribute r positive fits =
-    let a = count_trailing_zeros 32 r.present in
-    let l = lowest_is r.present (omega (arith, positive)) fits in
-    present r a (ap (λ (x : Bool). x && has r.present a) (lt-ltb a 32 l.below) ∙ l.present)
+    let below = trailing_below 32 r.present (omega (arith, positive)) fits in
+    shown_edge r (count_trailing_zeros 32 r.present) below (lowest_set 32 r.present below)
 
 no_attribute : (r : Node) → r.present ≡ 0 → (a : ℕ) → edge_of r a ≡ none
-no_attribute r e a =
-    absent r a (ap (λ (x : Bool). ltb a 32 && x) (ap (λ (x : ℕ). has x a) e ∙ has_none a) ∙ and_false (ltb a 32))
+no_attribute r e a = not_present r a (ap (λ (x : ℕ). has x a) e ∙ has_none a)
 
 -- the node with the number k, read from its row
-module _ (m : Meaning) (s : Closer) (arranged : Arranged s) (valued : (k : ℕ) → k < s.numbers.count → closed_state s k ≡ none → ⊥) (k : ℕ) (lt : k < s.next.used) (node : Node) (read : node ≡ get_or (vec_items s.next.rows) k node) where
-  read_row : node ≡ row (vec_items s.next.rows) k
-  read_row =
-      let long = s.next.rows.ok.0 in
-      let all = (sound_known s.sound).rows in
-      let most = (sound_known s.sound).used in
-      get_or_read (vec_items s.next.rows) k node (omega arith) read blank
-
+module _ (m : Meaning) (s : Closer) (arranged : Arranged s) (valued : (k : ℕ) → k < vec_len s.numbers.listed → closed_state s k ≡ none → ⊥) (k : ℕ) (lt : k < vec_len s.next.rows) (node : Node) (read_row : node ≡ row (vec_items s.next.rows) k) where
   value_stands : closed_state s k ≡ some node.value
   value_stands =
       let nodes = arranged.same.nodes in

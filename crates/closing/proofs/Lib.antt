@@ -1,3 +1,2 @@
 mod Composing
-mod Knowing
 mod Leaves

@@ -1,8 +1,8 @@
 -- What is left when a statement has been closed.
 use Rattle.std.proofs.Math.Option.{Option}
-use Rattle.std.specs.Prelude.{ℕ, List, [], ◌∷◌, ◌++◌}
+use Rattle.std.specs.Prelude.{ℕ, List, [], ◌∷◌, ◌++◌, vec_len}
 use Rattle.kinds.specs.Meaning.{Meaning}
-use Rattle.features.specs.Terms.{Term, Statement}
+use Rattle.features.specs.Terms.{Statement}
 use Rattle.features.specs.Graphs.{Graph, SameGraph}
 use Rattle.growth.specs.Standing.{Stands}
 use Rattle.tables.specs.Views.{graph, values}
@@ -11,9 +11,6 @@ use Rattle.joining.specs.Workspaces.{state}
 use Rattle.numbering.specs.Given.{ord}
 use Rattle.numbering.specs.Frontier.{Numbered, in_numbers}
 use Rattle.closing.specs.declared.closer.Closer.{Closer}
-
-abbrev pub term : ℕ → List ℕ → Term
-term x xs = record { var = x; path = xs }
 
 -- the graph that came of it, in listing order
 abbrev pub closed_graph : Closer → Graph
@@ -31,11 +28,11 @@ pub record Arranged (c : Closer) : Type 0 where
 -- the statement was closed: whatever the table stood for, what came of it stands for that and the statement
 pub record Closes (m : Meaning) (t : Table) (s : Statement) (c : Closer) : Type 0 where
   pub arranged : Arranged c
-  pub stands : (said : List Statement) → Stands m (graph t) (values t) t.vars said
-      → Stands m (closed_graph c) (closed_state c) t.vars (said ++ (s ∷ []))
+  pub stands : (said : List Statement) → Stands m (graph t) (values t) (vec_len t.roots) said
+      → Stands m (closed_graph c) (closed_state c) (vec_len t.roots) (said ++ (s ∷ []))
 
 -- the table was put in listing order: it stands for what it stood for
 pub record Lists (m : Meaning) (t : Table) (c : Closer) : Type 0 where
   pub arranged : Arranged c
-  pub stands : (said : List Statement) → Stands m (graph t) (values t) t.vars said
-      → Stands m (closed_graph c) (closed_state c) t.vars said
+  pub stands : (said : List Statement) → Stands m (graph t) (values t) (vec_len t.roots) said
+      → Stands m (closed_graph c) (closed_state c) (vec_len t.roots) said

@@ -1,7 +1,5 @@
 // The memory in which statements are closed.
 ghost use Rattle.std.specs.Prelude.{◌≡◌, vec_len};
-ghost use Rattle.joining.specs.Workspaces.{Room as WorkRoom};
-ghost use Rattle.numbering.specs.Given.{Room as NumbersRoom};
 ghost use Rattle.tables.specs.Views.{Sound};
 
 use joining::workspace::{Pair, Workspace};
@@ -17,10 +15,7 @@ pub struct Closer {
     pub numbers: Numbers,
     pub pairs: Vec<Pair>,
     pub waiting: Vec<u16>,
-    ghost worked: { ∥ Sound work.table ∥₁ },
-    ghost roomy: { ∥ WorkRoom work ∥₁ },
     ghost sound: { ∥ Sound next ∥₁ },
-    ghost numbered: { ∥ NumbersRoom numbers ∥₁ },
     ghost joinable: { vec_len pairs ≡ 8705 },
     ghost visitable: { vec_len waiting ≡ 272 },
 }

@@ -1,2 +1,3 @@
 pub mod Belows
 pub mod Mapping
+pub mod Dropped

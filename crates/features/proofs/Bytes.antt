@@ -4,8 +4,10 @@ use mathlib.Core.Option.{Option, some, none}
 use native.Mathlib.Nat.{mod-one, div-div-eq-div-mul}
 use native.Mathlib.Decide.{dec_lt}
 use lib.Arith.{mod-mul}
+use Rattle.std.proofs.Math.Nat.{one-le-pow}
 use Rattle.std.specs.Int.Digits.{AllBelowBase}
-use Rattle.std.proofs.ByRecursion.{All-append}
+use Rattle.std.specs.Prelude.{All}
+use Rattle.std.proofs.lemmas.List.Elements.{All-nil, All-cons, All-append, All-push}
 use Rattle.features.specs.Graphs.{Graph, SameGraph}
 use Rattle.features.specs.Listing.{little, entry, along, one_if, count, record_of, written}
 use Rattle.features.proofs.Paths.{none_without}
@@ -16,18 +18,17 @@ pub length_little : (k n : ℕ) → length (little k n) ≡ k
 length_little zero n = refl
 length_little (suc k) n = ap suc (length_little k (n / 256))
 
-pub under_little : (k n : ℕ) → AllBelowBase 256 (little k n)
-under_little zero n = tt
-under_little (suc k) n = (omega arith, under_little k (n / 256))
+abbrev IsByte : ℕ → Type 0
+IsByte b = b < 256
 
-power_positive : (k : ℕ) → 0 < 256 ^ k
-power_positive zero = omega arith
-power_positive (suc k) = omega (arith, pow-suc 256 k, power_positive k)
+bytes_little : (k n : ℕ) → All IsByte (little k n)
+bytes_little zero n = All-nil IsByte
+bytes_little (suc k) n = All-cons IsByte (n % 256) (little k (n / 256)) (omega arith) (bytes_little k (n / 256))
 
 pub from_little_little : (k n : ℕ) → from_little (little k n) ≡ n % 256 ^ k
 from_little_little zero n = sym (mod-one n)
 from_little_little (suc k) n =
-    let e = mod-mul n {m = 256 ^ k} {c = 256} (power_positive k) (omega arith) in
+    let e = mod-mul n {m = 256 ^ k} {c = 256} (one-le-pow k 256 (omega arith)) (omega arith) in
     let h = from_little_little k (n / 256) in
     let p = ap (λ (z : ℕ). n % z) (pow-suc 256 k) in
     omega (arith, e, h, p)
@@ -237,9 +238,9 @@ listing_length g =
     let roots : List ℕ = along (λ x. little 2 (g.root x)) 0 g.vars in
     simp (length-append) (omega (arith, length_records g g.nodes, length_roots g g.vars))
 
-pub under_along : (b : ℕ) (f : ℕ → List ℕ) (a k : ℕ) → ((n : ℕ) → a ≤ n → n < a + k → AllBelowBase b (f n)) → AllBelowBase b (along f a k)
-under_along b f a zero u = tt
-under_along b f a (suc k) u = All-append (λ d. d < b) (f a) (along f (suc a) k) (u a (omega arith) (omega arith)) (under_along b f (suc a) k (λ n l m. u n (omega arith) (omega arith)))
+all_along : (P : ℕ → Type 0) (f : ℕ → List ℕ) (a k : ℕ) → ((n : ℕ) → a ≤ n → n < a + k → All P (f n)) → All P (along f a k)
+all_along P f a zero u = All-nil P
+all_along P f a (suc k) u = All-append P (f a) (along f (suc a) k) (u a (omega arith) (omega arith)) (all_along P f (suc a) k (λ n l m. u n (omega arith) (omega arith)))
 
 one_if_bound : (o : Option ℕ) → one_if o ≤ 1
 one_if_bound none = omega arith
@@ -248,28 +249,28 @@ one_if_bound (some t) = omega arith
 pub attributes_bound : (g : Graph) (n : ℕ) → attributes_of g n ≤ 32
 attributes_bound g n = omega (arith, count_bound (λ a. one_if (g.edge n a)) 1 0 32 (λ a l m. one_if_bound (g.edge n a)))
 
-under_entry : (a : ℕ) (o : Option ℕ) → a < 256 → AllBelowBase 256 (entry a o)
-under_entry a none l = tt
-under_entry a (some t) l = (l, under_little 2 t)
+bytes_entry : (a : ℕ) (o : Option ℕ) → a < 256 → All IsByte (entry a o)
+bytes_entry a none l = All-nil IsByte
+bytes_entry a (some t) l = All-cons IsByte a (little 2 t) l (bytes_little 2 t)
 
-under_part : (k v : ℕ) (e : ℕ → Option ℕ) → k < 256 → AllBelowBase 256 (part k v e)
-under_part k v e l =
+bytes_part : (k v : ℕ) (e : ℕ → Option ℕ) → k < 256 → All IsByte (part k v e)
+bytes_part k v e l =
     let few : count (λ a. one_if (e a)) 0 k < 256 = omega (arith, count_bound (λ a. one_if (e a)) 1 0 k (λ a h m. one_if_bound (e a))) in
-    All-append (λ d. d < 256) (little 8 v ++ (count (λ a. one_if (e a)) 0 k ∷ [])) (along (λ a. entry a (e a)) 0 k)
-    (All-append (λ d. d < 256) (little 8 v) (count (λ a. one_if (e a)) 0 k ∷ []) (under_little 8 v) (few, tt))
-    (under_along 256 (λ a. entry a (e a)) 0 k (λ a h m. under_entry a (e a) (omega arith)))
+    All-append IsByte (little 8 v ++ (count (λ a. one_if (e a)) 0 k ∷ [])) (along (λ a. entry a (e a)) 0 k)
+    (All-push IsByte (little 8 v) (count (λ a. one_if (e a)) 0 k) (bytes_little 8 v) few)
+    (all_along IsByte (λ a. entry a (e a)) 0 k (λ a h m. bytes_entry a (e a) (omega arith)))
 
-pub under_record : (g : Graph) (n : ℕ) → AllBelowBase 256 (record_of g n)
-under_record g n = under_part 32 (g.value n) (g.edge n) (omega arith)
+bytes_record : (g : Graph) (n : ℕ) → All IsByte (record_of g n)
+bytes_record g n = bytes_part 32 (g.value n) (g.edge n) (omega arith)
 
-pub listing_is_bytes : (g : Graph) → AllBelowBase 256 (written g)
+pub listing_is_bytes : (g : Graph) → All IsByte (written g)
 listing_is_bytes g =
     let records : List ℕ = along (record_of g) 0 g.nodes in
     let roots : List ℕ = along (λ x. little 2 (g.root x)) 0 g.vars in
-    let both = All-append (λ d. d < 256) records roots (under_along 256 (record_of g) 0 g.nodes (λ n h m. under_record g n)) (under_along 256 (λ x. little 2 (g.root x)) 0 g.vars (λ x h m. under_little 2 (g.root x))) in
-    let with_nodes = All-append (λ d. d < 256) (records ++ roots) (little 2 g.nodes) both (under_little 2 g.nodes) in
-    let with_vars = All-append (λ d. d < 256) (records ++ roots ++ little 2 g.nodes) (little 2 g.vars) with_nodes (under_little 2 g.vars) in
-    All-append (λ d. d < 256) (records ++ roots ++ little 2 g.nodes ++ little 2 g.vars) (little 4 (length records)) with_vars (under_little 4 (length records))
+    let both = All-append IsByte records roots (all_along IsByte (record_of g) 0 g.nodes (λ n h m. bytes_record g n)) (all_along IsByte (λ x. little 2 (g.root x)) 0 g.vars (λ x h m. bytes_little 2 (g.root x))) in
+    let with_nodes = All-append IsByte (records ++ roots) (little 2 g.nodes) both (bytes_little 2 g.nodes) in
+    let with_vars = All-append IsByte (records ++ roots ++ little 2 g.nodes) (little 2 g.vars) with_nodes (bytes_little 2 g.vars) in
+    All-append IsByte (records ++ roots ++ little 2 g.nodes ++ little 2 g.vars) (little 4 (length records)) with_vars (bytes_little 4 (length records))
 
 pub listing_bounded : (g : Graph) → WithinLimits g → length (written g) ≤ 27016
 listing_bounded g within =

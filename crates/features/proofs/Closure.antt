@@ -1,12 +1,19 @@
 -- Closing: joined terms agree on all that came, and only the set of statements matters.
-use Rattle.std.proofs.Common.{◌≡◌, ℕ, suc, ◌<◌, List, [], ◌∷◌, ◌++◌, refl, subst, arith}
+use Rattle.std.proofs.Common.{◌≡◌, ℕ, suc, ◌<◌, List, [], ◌∷◌, ◌++◌, sym, refl, subst, arith}
 use mathlib.Core.List.{Memᴰ}
+use Rattle.std.specs.List.{AllByRecursion}
 use Rattle.kinds.specs.Meaning.{Meaning}
 use Rattle.features.specs.Terms.{Term, Statement, equals, is, apart, ◌▸◌}
 use Rattle.features.specs.Closing.{Joined, variable, stated, given, turned, chained, begun, beneath, Came, top, said_of, Under, Valued}
 use Rattle.features.specs.Holding.{aparts_of, Small, end, also, Proper}
 use Rattle.features.specs.Clashes.{Broken}
 use Rattle.features.specs.Clashes
+
+-- what holds of each element holds of a member
+pub every_member : {X : Type 0} (P : X → Type 0) (xs : List X) → AllByRecursion P xs → (x : X) → Memᴰ x xs → P x
+every_member P [] h x i = elim i [ ]
+every_member P (y ∷ xs) h x (Memᴰ.head e) = subst P (sym e) h.0
+every_member P (y ∷ xs) h x (Memᴰ.tail i) = every_member P xs h.1 x i
 
 module _ (m : Meaning) (vars : ℕ) (said : List Statement) where
   -- joined terms have the same values at or below all that came

@@ -4,7 +4,7 @@ use mathlib.Core.Option.{Option, some, none}
 use mathlib.Core.List.{Memᴰ}
 use Rattle.std.specs.List.{AllByRecursion}
 use Rattle.kinds.specs.Meaning.{Meaning, Lawful}
-use Rattle.features.specs.Terms.{Term, Statement, apart, only, ◌▸◌}
+use Rattle.features.specs.Terms.{Term, apart, only, ◌▸◌}
 use Rattle.features.specs.Graphs.{Graph, Leads, here, step, Denotes, Satisfies, Model}
 use Rattle.features.specs.Order.{InOrder}
 use Rattle.features.specs.Listing.{count}
@@ -14,6 +14,7 @@ use Rattle.features.specs.Holding.{Holds, Small, end, also, Sound, Proper}
 use Rattle.features.specs.Numbering.{Mention, by_variable, by_attribute, Mentions, Sooner, FirstMention, Inside}
 use Rattle.features.specs.Worked.{said, targets, worked, WorkedListing}
 use Rattle.features.proofs.Paths.{some_same, some_not_none, leads_same, leads_back}
+use Rattle.features.proofs.Closure.{every_member}
 use Rattle.features.proofs.Sound.{joined_in_model, model_value_under}
 use Rattle.features.proofs.Ordering.{Ended, empty, more, ended}
 use Rattle.features.proofs.Numbering.{denotes_inside, GivenBefore, breadth_first_by_firsts, breadth_first_in_order}
@@ -107,11 +108,6 @@ two_terms_denote_nothing v n = (longer, λ d. no_step d.1 refl)
         let out : Leads (worked v) 1 (3 ∷ []) 5 = step refl here in
         some_not_none (subst (λ (z : ℕ). (worked v).edge z 4 ≡ some n) (sym (leads_same out b.1)) b.2) refl
 
-every_said : (P : Statement → Type 0) (l : List Statement) → AllByRecursion P l → (s : Statement) → Memᴰ s l → P s
-every_said P [] h s m = elim m [ ]
-every_said P (x ∷ l) h s (Memᴰ.head e) = subst P (sym e) h.0
-every_said P (x ∷ l) h s (Memᴰ.tail m) = every_said P l h.1 s m
-
 statements : (m : Meaning) → AllByRecursion (Satisfies m (worked m.top)) said
 statements m = (
   (6, (omega arith, step refl here), (omega arith, step refl (step refl here))),
@@ -148,7 +144,7 @@ satisfies_all m lawful = record {
     leaves = λ n a l leaf. let z : ◌≡◌ {A = ℕ} 0 1 = cc lawful.top_open in absurd (omega arith);
   };
   declared = omega arith;
-  satisfies = every_said (Satisfies m (worked m.top)) said (statements m);
+  satisfies = every_member (Satisfies m (worked m.top)) said (statements m);
 }
 
 -- the trail of each node
@@ -270,7 +266,7 @@ proper_all m = (
 
 pub holds_what_was_said : (m : Meaning) → Lawful m → Holds m (worked m.top) (apart (only 0 ▸ 0 ▸ 0 ▸ 1 ▸ 4) (only 3) ∷ []) 4 said
 holds_what_was_said m lawful = record {
-  proper = every_said (Proper m 4) said (proper_all m);
+  proper = every_member (Proper m 4) said (proper_all m);
   aparts = refl;
   all = refl;
   joined = λ p q j. joined_in_model m 4 said (worked m.top) (satisfies_all m lawful) j;

@@ -1,7 +1,6 @@
 -- How long a listing is, that it determines its graph, and of which graphs there are listings to be read.
-use Rattle.std.specs.Prelude.{◌≡◌, ℕ, ◌+◌, ◌*◌, ◌^◌, ◌<◌, ◌≤◌, List, [], ◌∷◌, length}
+use Rattle.std.specs.Prelude.{◌≡◌, ℕ, ◌+◌, ◌*◌, ◌^◌, ◌<◌, ◌≤◌, List, [], ◌∷◌, length, All}
 use Rattle.std.proofs.Math.Option.{some}
-use Rattle.std.specs.List.{AllByRecursion}
 use Rattle.kinds.specs.Meaning.{Meaning}
 use Rattle.features.specs.Graphs.{Graph, Feature, SameGraph}
 use Rattle.features.specs.Listing.{one_if, count, written}
@@ -35,7 +34,7 @@ ListingLength = (g : Graph) → length (written g) ≡ count (λ n. 8 + 1 + 3 * 
 
 -- bytes are numbers below 256
 abbrev pub ListingIsBytes : Type 0
-ListingIsBytes = (g : Graph) → AllByRecursion (λ b. b < 256) (written g)
+ListingIsBytes = (g : Graph) → All (λ b. b < 256) (written g)
 
 abbrev pub ListingBounded : Type 0
 ListingBounded = (g : Graph) → WithinLimits g → length (written g) ≤ 27016

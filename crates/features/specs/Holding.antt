@@ -31,6 +31,14 @@ Proper m vars (equals p q) = Sound vars p × Sound vars q
 Proper m vars (is p v) = Sound vars p × (m.value v ≡ true)
 Proper m vars (apart p q) = Sound vars p × Sound vars q
 
+-- the graph joins exactly what closing joins, and has no node besides those that terms denote
+pub record Shape (g : Graph) (vars : ℕ) (said : List Statement) : Type 0 where
+  pub all : g.vars ≡ vars
+  pub joined : (p q : Term) → Joined vars said p q → (n : ℕ) × Denotes g p n × Denotes g q n
+  pub nothing_else : (p q : Term) (n : ℕ) → Denotes g p n → Denotes g q n → Joined vars said p q
+  pub reached : (n : ℕ) → n < g.nodes → (p : Term) × Denotes g p n
+  pub inside : (p : Term) (n : ℕ) → Denotes g p n → n < g.nodes
+
 pub record Holds (m : Meaning) (g : Graph) (kept : List Statement) (vars : ℕ) (said : List Statement) : Type 0 where
   pub proper : (s : Statement) → Memᴰ s said → Proper m vars s
   pub aparts : kept ≡ aparts_of said

@@ -2,44 +2,30 @@
 ghost use Rattle.features.specs.Bytes.{ListingLength, ListingIsBytes, ListingBounded, BytesDetermineGraph};
 ghost use Rattle.features.specs.Numbering.{BreadthFirstInOrder, InOrderBreadthFirst, TrailsByFirstMention};
 
-pub fn breadth_first_in_order() -> u8
+pub fn breadth_first_in_order()
     ensures { BreadthFirstInOrder }
-{
-    0
-}
+{}
 
-pub fn in_order_breadth_first() -> u8
+pub fn in_order_breadth_first()
     ensures { InOrderBreadthFirst }
-{
-    0
-}
+{}
 
-pub fn trails_by_first_mention() -> u8
+pub fn trails_by_first_mention()
     ensures { TrailsByFirstMention }
-{
-    0
-}
+{}
 
-pub fn listing_length() -> u8
+pub fn listing_length()
     ensures { ListingLength }
-{
-    0
-}
+{}
 
-pub fn listing_is_bytes() -> u8
+pub fn listing_is_bytes()
     ensures { ListingIsBytes }
-{
-    0
-}
+{}
 
-pub fn listing_bounded() -> u8
+pub fn listing_bounded()
     ensures { ListingBounded }
-{
-    0
-}
+{}
 
-pub fn bytes_determine_graph() -> u8
+pub fn bytes_determine_graph()
     ensures { BytesDetermineGraph }
-{
-    0
-}
+{}

@@ -1,44 +1,30 @@
 // Theorems on one worked graph, each on the contract of a small function.
 ghost use Rattle.features.specs.Worked.{WorkedHasNineAttributes, WorkedSatisfiesAll, WorkedHoldsWhatWasSaid, WorkedInOrder, TwoTermsDenoteNothing, ThereAndBack, WorkedListing};
 
-pub fn has_nine_attributes() -> u8
+pub fn has_nine_attributes()
     ensures { WorkedHasNineAttributes }
-{
-    0
-}
+{}
 
-pub fn satisfies_all() -> u8
+pub fn satisfies_all()
     ensures { WorkedSatisfiesAll }
-{
-    0
-}
+{}
 
-pub fn holds_what_was_said() -> u8
+pub fn holds_what_was_said()
     ensures { WorkedHoldsWhatWasSaid }
-{
-    0
-}
+{}
 
-pub fn in_order() -> u8
+pub fn in_order()
     ensures { WorkedInOrder }
-{
-    0
-}
+{}
 
-pub fn two_terms_denote_nothing() -> u8
+pub fn two_terms_denote_nothing()
     ensures { TwoTermsDenoteNothing }
-{
-    0
-}
+{}
 
-pub fn there_and_back() -> u8
+pub fn there_and_back()
     ensures { ThereAndBack }
-{
-    0
-}
+{}
 
-pub fn listing() -> u8
+pub fn listing()
     ensures { WorkedListing }
-{
-    0
-}
+{}

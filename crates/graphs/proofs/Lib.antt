@@ -1,6 +1,7 @@
 pub mod Numbering
 pub mod Visiting
 pub mod LowestFirst
+pub mod Parts
 pub mod Entries
 pub mod Trailing
 pub mod Whole

@@ -1,9 +1,8 @@
 -- The attributes of a row gone through from the lowest up.
-use Rattle.std.proofs.Common.{◌≡◌, ℕ, ◌+◌, ◌<◌, ◌≤◌, Bool, true, false, ◌&&◌, ltb, get_or, vec_items, sym, refl, ap, ◌∙◌, inl, inr, arith, lt-ltb}
+use Rattle.std.proofs.Common.{◌≡◌, ℕ, ◌+◌, ◌<◌, ◌≤◌, false, sym, refl, ap, ◌∙◌, inl, inr, arith}
 use mathlib.Core.Option.{some, none}
 use native.Mathlib.Decide.{dec_lt}
 use Rattle.std.proofs.lemmas.Bool.{both_ways}
-use Rattle.std.proofs.lemmas.List.{get_or_read}
 use Rattle.kinds.specs.Masks.{has}
 use Rattle.kinds.specs.BitSets.{has_none}
 use Rattle.features.specs.Graphs.{Graph}
@@ -11,9 +10,8 @@ use Rattle.features.specs.Numbering.{Mention, by_attribute, Mentions}
 use Rattle.features.proofs.Numbering.{GivenBefore}
 use Rattle.tables.specs.Attributes.{Lowest, WithoutLowest}
 use Rattle.tables.specs.declared.node.Node.{Node}
-use Rattle.tables.specs.declared.table.Table.{Table}
-use Rattle.tables.specs.Views.{edge_of, graph, Sound}
-use Rattle.tables.proofs.Leading.{absent, present, and_false}
+use Rattle.tables.specs.Views.{edge_of}
+use Rattle.tables.proofs.Leading.{not_present}
 use Rattle.tables.proofs.Walking.{nowhere}
 use Rattle.graphs.specs.Mentioned.{NumberedUpTo, WithMention, LeftFrom}
 use Rattle.graphs.proofs.Numbering.{Next, numbered_known, numbered_new, next_attribute, over_attribute, to_next_node}
@@ -25,13 +23,10 @@ numbered_with g c d n next r here before step (inr h) s = rw h.1 (numbered_new g
 pub left_start : (p : ℕ) → LeftFrom p p 0
 left_start p = record { gone = λ b l. absurd (omega arith); kept = λ b l. refl }
 
-lacked : (r : Node) (b : ℕ) → has r.present b ≡ false → edge_of r b ≡ none
-lacked r b e = absent r b (ap (λ (z : Bool). ltb b 32 && z) e ∙ and_false (ltb b 32))
-
 module _ (r : Node) (left a : ℕ) (from : LeftFrom r.present left a) where
   -- all are gone through
   pub none_left : left ≡ 0 → (b : ℕ) → a ≤ b → edge_of r b ≡ none
-  none_left e b l = lacked r b (sym (from.kept b l) ∙ ap (λ (z : ℕ). has z b) e ∙ has_none b)
+  none_left e b l = not_present r b (sym (from.kept b l) ∙ ap (λ (z : ℕ). has z b) e ∙ has_none b)
 
   module _ (x : ℕ) (low : Lowest left x) where
     pub lowest_from : a ≤ x
@@ -41,14 +36,8 @@ module _ (r : Node) (left a : ℕ) (from : LeftFrom r.present left a) where
         pick (yes l) = absurd (both_ways (has left x) (from.gone x l) low.present)
         pick (no l) = omega arith
 
-    pub lowest_leads : edge_of r x ≡ some (get_or r.targets x 0)
-    lowest_leads = present r x (both (ltb x 32) (has r.present x) (lt-ltb x 32 low.below) (sym (from.kept x lowest_from) ∙ low.present))
-      where
-        both : (p q : Bool) → p ≡ true → q ≡ true → (p && q) ≡ true
-        both p q e f = cc
-
     pub lacked_between : (b : ℕ) → a ≤ b → b < x → edge_of r b ≡ none
-    lacked_between b l h = lacked r b (sym (from.kept b l) ∙ low.none_lower b h)
+    lacked_between b l h = not_present r b (sym (from.kept b l) ∙ low.none_lower b h)
 
     pub left_next : (rest : ℕ) → WithoutLowest left rest → LeftFrom r.present rest (x + 1)
     left_next rest w = record { gone = λ b l. gone b (dec_lt b x) l; kept = λ b l. w.others x b low (λ e. omega arith) ∙ from.kept b (omega (arith, lowest_from)) }
@@ -72,15 +61,9 @@ module _ (r : Node) (left a : ℕ) (from : LeftFrom r.present left a) where
       pub numbered_here : (x : ℕ) → Lowest left x → NumberedUpTo g (by_attribute i x) next
       numbered_here x low = over_attribute g i a x (no_edge_between x low) next (lowest_from x low) s
 
-      pub numbered_more : (x o : ℕ) → Lowest left x → i < g.nodes → i < next → WithMention next (get_or r.targets x 0) o → NumberedUpTo g (by_attribute i (x + 1)) o
-      numbered_more x o low inside before w =
-          numbered_with g (by_attribute i x) (by_attribute i (x + 1)) (get_or r.targets x 0) next o (inside, is x ∙ lowest_leads x low) (λ e. before) (next_attribute g i x) w (numbered_here x low)
-
--- what a read of a variable's node gives
-pub read_root : (t : Table) → Sound t → (x : ℕ) → x < t.vars → (n : ℕ) → n ≡ get_or (vec_items t.roots) x n → (graph t).root x ≡ n
-read_root t s x l n e =
-    let long = t.roots.ok.0 in let all = s.roots in let most = s.vars in
-    sym (get_or_read (vec_items t.roots) x n (omega arith) e 0)
+      pub numbered_more : (x t o : ℕ) → Lowest left x → edge_of r x ≡ some t → i < g.nodes → i < next → WithMention next t o → NumberedUpTo g (by_attribute i (x + 1)) o
+      numbered_more x t o low leads inside before w =
+          numbered_with g (by_attribute i x) (by_attribute i (x + 1)) t next o (inside, is x ∙ leads) (λ e. before) (next_attribute g i x) w (numbered_here x low)
 
 pub with_mention_most : (next n r most : ℕ) → n < most → next ≤ most → WithMention next n r → (next ≤ r) × (r ≤ most)
 with_mention_most next n r most l h (inl w) = (omega (arith, w.1), omega (arith, w.1))

@@ -1,8 +1,7 @@
 -- Records and variables' nodes read one after another, and the graph that they make.
-use Rattle.std.proofs.Common.{◌≡◌, ℕ, suc, ◌+◌, ◌-◌, ◌*◌, ◌<◌, Bool, ◌&&◌, List, ◌++◌, length, get_or, take, drop, set, vec_items, vec_len, Vec, sym, refl, ap, ◌∙◌, subst, append_assoc, add-one, arith, take-append-drop, length-take, get_or-set_other, get_or-set_same, drop-drop, take_at, take-add, le-ltb}
+use Rattle.std.proofs.Common.{◌≡◌, ℕ, suc, ◌+◌, ◌-◌, ◌*◌, ◌<◌, ◌≤◌, Bool, ◌&&◌, List, [], ◌∷◌, ◌++◌, length, get_or, take, drop, vec_items, vec_len, vec_capacity, sym, refl, ap, ◌∙◌, subst, append_assoc, add-one, arith, take-append-drop, length-take, drop-drop, take-add, le-ltb}
 use mathlib.Core.Option.{some}
 use native.Mathlib.Decide.{dec_lt}
-use Rattle.std.specs.Vec.{with_items}
 use Rattle.kinds.specs.Masks.{has}
 use Rattle.kinds.specs.Meaning.{Meaning, Lawful}
 use Rattle.features.specs.Bytes.{Written}
@@ -14,6 +13,7 @@ use Rattle.features.proofs.Paths.{none_without}
 use Rattle.tables.specs.declared.node.Node.{Node}
 use Rattle.tables.specs.declared.table.Table.{Table}
 use Rattle.tables.specs.Views.{row, blank, edge_of, graph, Sound}
+use Rattle.tables.proofs.Extended.{kept_before, added_last}
 use Rattle.tables.proofs.Leading.{absent}
 use Rattle.tables.proofs.Walking.{nowhere}
 use Rattle.graphs.specs.Listings.{node_count, variable_count, table_place, count_at, start}
@@ -38,55 +38,55 @@ row_right m bs k r right at = record {
 pub rows_none : (m : Meaning) (bs : List ℕ) (rows : List Node) → RowsOf m bs rows 0
 rows_none m bs rows = record { bytes = refl; right = λ n l. absurd (omega arith) }
 
-pub rows_more : (m : Meaning) (bs : List ℕ) (rows : List Node) (k : ℕ) (r : Node) → k < length rows → Right m bs k → RowAt bs (start bs k) r → RowsOf m bs rows k → RowsOf m bs (set rows k r) (k + 1)
-rows_more m bs rows k r room right at before = subst (RowsOf m bs (set rows k r)) (sym (add-one k)) (record { bytes = bytes; right = λ n l. pick n l (dec_lt n k) })
+pub rows_more : (m : Meaning) (bs : List ℕ) (rows rows' : List Node) (k : ℕ) (r : Node) → length rows ≡ k → rows' ≡ rows ++ r ∷ [] → Right m bs k → RowAt bs (start bs k) r → RowsOf m bs rows k → RowsOf m bs rows' (k + 1)
+rows_more m bs rows rows' k r long more right at before = subst (RowsOf m bs rows') (sym (add-one k)) (record { bytes = bytes; right = λ n l. pick n l (dec_lt n k) })
   where
-    same : (n : ℕ) → n < k → row (set rows k r) n ≡ row rows n
-    same n l = get_or-set_other rows k n r blank (λ e. omega arith)
+    same : (n : ℕ) → n < k → row rows' n ≡ row rows n
+    same = kept_before rows rows' k r blank long more
 
-    last : row (set rows k r) k ≡ r
-    last = get_or-set_same rows k r blank room
+    last : row rows' k ≡ r
+    last = added_last rows rows' k r blank long more
 
-    bytes : along (λ n. record_of_row (row (set rows k r) n)) 0 (suc k) ≡ take (start bs (suc k)) bs
+    bytes : along (λ n. record_of_row (row rows' n)) 0 (suc k) ≡ take (start bs (suc k)) bs
     bytes =
         let c = count_at bs (start bs k) in
-        let front = along_same (λ n. record_of_row (row (set rows k r) n)) (λ n. record_of_row (row rows n)) 0 k (λ n l h. ap record_of_row (same n (omega arith))) in
+        let front = along_same (λ n. record_of_row (row rows' n)) (λ n. record_of_row (row rows n)) 0 k (λ n l h. ap record_of_row (same n (omega arith))) in
         let length_is : start bs k + (9 + 3 * c) ≡ start bs k + 9 + 3 * c = omega arith in
-        along_more (λ n. record_of_row (row (set rows k r) n)) k
+        along_more (λ n. record_of_row (row rows' n)) k
         ∙ (λ i. (front ∙ before.bytes) i ++ (ap record_of_row last ∙ at.bytes) i)
         ∙ sym (take-add (start bs k) (9 + 3 * c) bs) ∙ ap (λ (z : ℕ). take z bs) length_is
 
-    pick : (n : ℕ) → n < suc k → Dec (n < k) → RowRight m (node_count bs) (row (set rows k r) n)
+    pick : (n : ℕ) → n < suc k → Dec (n < k) → RowRight m (node_count bs) (row rows' n)
     pick n l (yes h) = subst (RowRight m (node_count bs)) (sym (same n h)) (before.right n h)
     pick n l (no h) =
         let e : k ≡ n = omega arith in
-        subst (λ (z : ℕ). RowRight m (node_count bs) (row (set rows k r) z)) e (subst (RowRight m (node_count bs)) (sym last) (row_right m bs k r right at))
+        subst (λ (z : ℕ). RowRight m (node_count bs) (row rows' z)) e (subst (RowRight m (node_count bs)) (sym last) (row_right m bs k r right at))
 
 pub roots_none : (bs roots : List ℕ) → RootsOf bs roots 0
 roots_none bs roots = record { bytes = refl; inside = λ x l. absurd (omega arith) }
 
-pub roots_more : (bs roots : List ℕ) (x r : ℕ) → x < length roots → r < node_count bs → little 2 r ≡ take 2 (drop (table_place bs + 2 * x) bs) → RootsOf bs roots x → RootsOf bs (set roots x r) (x + 1)
-roots_more bs roots x r room inside here before = subst (RootsOf bs (set roots x r)) (sym (add-one x)) (record { bytes = bytes; inside = λ y l. pick y l (dec_lt y x) })
+pub roots_more : (bs roots roots' : List ℕ) (x r : ℕ) → length roots ≡ x → roots' ≡ roots ++ r ∷ [] → r < node_count bs → little 2 r ≡ take 2 (drop (table_place bs + 2 * x) bs) → RootsOf bs roots x → RootsOf bs roots' (x + 1)
+roots_more bs roots roots' x r long more inside here before = subst (RootsOf bs roots') (sym (add-one x)) (record { bytes = bytes; inside = λ y l. pick y l (dec_lt y x) })
   where
-    same : (y : ℕ) → y < x → get_or (set roots x r) y 0 ≡ get_or roots y 0
-    same y l = get_or-set_other roots x y r 0 (λ e. omega arith)
+    same : (y : ℕ) → y < x → get_or roots' y 0 ≡ get_or roots y 0
+    same = kept_before roots roots' x r 0 long more
 
-    last : get_or (set roots x r) x 0 ≡ r
-    last = get_or-set_same roots x r 0 room
+    last : get_or roots' x 0 ≡ r
+    last = added_last roots roots' x r 0 long more
 
-    bytes : along (λ y. little 2 (get_or (set roots x r) y 0)) 0 (suc x) ≡ take (2 * suc x) (drop (table_place bs) bs)
+    bytes : along (λ y. little 2 (get_or roots' y 0)) 0 (suc x) ≡ take (2 * suc x) (drop (table_place bs) bs)
     bytes =
-        let front = along_same (λ y. little 2 (get_or (set roots x r) y 0)) (λ y. little 2 (get_or roots y 0)) 0 x (λ y l h. ap (little 2) (same y (omega arith))) in
+        let front = along_same (λ y. little 2 (get_or roots' y 0)) (λ y. little 2 (get_or roots y 0)) 0 x (λ y l h. ap (little 2) (same y (omega arith))) in
         let more : 2 * x + 2 ≡ 2 * suc x = omega arith in
-        along_more (λ y. little 2 (get_or (set roots x r) y 0)) x
+        along_more (λ y. little 2 (get_or roots' y 0)) x
         ∙ (λ i. (front ∙ before.bytes) i ++ (ap (little 2) last ∙ here ∙ sym (ap (take 2) (drop-drop (2 * x) (table_place bs) bs))) i)
         ∙ sym (take-add (2 * x) 2 (drop (table_place bs) bs)) ∙ ap (λ (z : ℕ). take z (drop (table_place bs) bs)) more
 
-    pick : (y : ℕ) → y < suc x → Dec (y < x) → get_or (set roots x r) y 0 < node_count bs
+    pick : (y : ℕ) → y < suc x → Dec (y < x) → get_or roots' y 0 < node_count bs
     pick y l (yes h) = subst (λ (z : ℕ). z < node_count bs) (sym (same y h)) (before.inside y h)
     pick y l (no h) =
         let e : x ≡ y = omega arith in
-        subst (λ (z : ℕ). get_or (set roots x r) z 0 < node_count bs) e (subst (λ (z : ℕ). z < node_count bs) (sym last) inside)
+        subst (λ (z : ℕ). get_or roots' z 0 < node_count bs) e (subst (λ (z : ℕ). z < node_count bs) (sym last) inside)
 
 -- the four parts make the whole
 written_whole : (bs : List ℕ) (t : Trailer) (g : Graph) → TrailerOf bs t → g.nodes ≡ node_count bs → g.vars ≡ variable_count bs
@@ -116,25 +116,25 @@ edge_small r a t e = pick (dec_lt a 32)
     pick (no l) = absurd (nowhere (edge_of r a) (absent r a (ap (λ (z : Bool). z && has r.present a) (le-ltb a 32 (omega arith)))) e)
 
 module _ (m : Meaning) (laws : Lawful m) (bs : List ℕ) (t : Trailer) (of : TrailerOf bs t) (ends : start bs (node_count bs) ≡ table_place bs)
-    (u : Table) (all_rows : vec_len u.rows ≡ 272) (all_roots : vec_len u.roots ≡ 64) (used : u.used ≡ node_count bs) (vars : u.vars ≡ variable_count bs)
+    (u : Table) (row_room : 272 ≤ vec_capacity u.rows) (root_room : 64 ≤ vec_capacity u.roots) (used : vec_len u.rows ≡ node_count bs) (vars : vec_len u.roots ≡ variable_count bs)
     (rows : RowsOf m bs (vec_items u.rows) (node_count bs)) (roots : RootsOf bs (vec_items u.roots) (variable_count bs)) where
-  edge_inside : (n a k : ℕ) → n < u.used → (graph u).edge n a ≡ some k → k < u.used
+  edge_inside : (n a k : ℕ) → n < vec_len u.rows → (graph u).edge n a ≡ some k → k < vec_len u.rows
   edge_inside n a k l e = let i = (rows.right n (omega arith)).inside a k e in omega arith
 
-  root_inside : (x : ℕ) → x < u.vars → (graph u).root x < u.used
+  root_inside : (x : ℕ) → x < vec_len u.roots → (graph u).root x < vec_len u.rows
   root_inside x l = let i = roots.inside x (omega arith) in omega arith
 
-  pub table_sound : Sound u
+  table_sound : Sound u
   table_sound = record {
-    rows = all_rows;
-    used = omega (arith, of.counted.nodes);
-    roots = all_roots;
-    vars = omega (arith, of.counted.variables);
+    rows = omega (arith, of.counted.nodes);
+    row_room = row_room;
+    roots = omega (arith, of.counted.variables);
+    root_room = root_room;
     edges_inside = edge_inside;
     roots_inside = root_inside;
   }
 
-  pub table_written : Written m bs (graph u)
+  table_written : Written m bs (graph u)
   table_written = record {
     within = record {
       few_nodes = omega (arith, of.counted.nodes);
@@ -152,39 +152,8 @@ module _ (m : Meaning) (laws : Lawful m) (bs : List ℕ) (t : Trailer) (of : Tra
     bytes = written_whole bs t (graph u) of used vars (rows.bytes ∙ ap (λ (z : ℕ). take z bs) ends) roots.bytes;
   }
 
--- a slice lent from a vector, given back at full length
-pub items_refilled : {X Z : Type 0} (v : Vec X Z) (ws : List X) → length ws ≡ vec_len v → vec_items (with_items v ws) ≡ ws
-items_refilled v ws e = take_at ws (drop (length ws) (vec_items v)) (vec_len v) e
-
--- what was read into the memory of a sound table
-pub read_whole : (m : Meaning) → Lawful m → (bs : List ℕ) (r : Trailer) → TrailerOf bs r → start bs (node_count bs) ≡ table_place bs
-    → (t : Table) → Sound t → (ws : List Node) (xs : List ℕ) → length ws ≡ vec_len t.rows → length xs ≡ vec_len t.roots
-    → RowsOf m bs ws (node_count bs) → RootsOf bs xs (variable_count bs)
-    → Sound (record { rows = with_items t.rows ws; used = r.nodes; roots = with_items t.roots xs; vars = r.variables })
-    × Written m bs (graph (record { rows = with_items t.rows ws; used = r.nodes; roots = with_items t.roots xs; vars = r.variables }))
-read_whole m laws bs r of ends t s ws xs all_rows all_roots rows roots =
-    let u : Table = record { rows = with_items t.rows ws; used = r.nodes; roots = with_items t.roots xs; vars = r.variables } in
-    let rows_in = subst (λ (z : List Node). RowsOf m bs z (node_count bs)) (sym (items_refilled t.rows ws all_rows)) rows in
-    let roots_in = subst (λ (z : List ℕ). RootsOf bs z (variable_count bs)) (sym (items_refilled t.roots xs all_roots)) roots in (
-      table_sound m laws bs r of ends u s.rows s.roots of.nodes of.variables rows_in roots_in,
-      table_written m laws bs r of ends u s.rows s.roots of.nodes of.variables rows_in roots_in,
-    )
-
-pub empty_sound : (t : Table) → vec_len t.rows ≡ 272 → vec_len t.roots ≡ 64 → t.used ≡ 0 → t.vars ≡ 0 → Sound t
-empty_sound t rows roots used vars = record {
-  rows = rows;
-  used = omega arith;
-  roots = roots;
-  vars = omega arith;
-  edges_inside = λ n a k l e. absurd (omega arith);
-  roots_inside = λ x l. absurd (omega arith);
-}
-
--- where the next record starts
-pub start_more : (bs : List ℕ) (k p : ℕ) → p ≡ start bs k → p + (9 + 3 * count_at bs p) ≡ start bs (k + 1)
-start_more bs k p e =
-    let q : start bs k + (9 + 3 * count_at bs (start bs k)) ≡ start bs k + 9 + 3 * count_at bs (start bs k) = omega arith in
-    ap (λ (z : ℕ). z + (9 + 3 * count_at bs z)) e ∙ q ∙ ap (start bs) (sym (add-one k))
+  pub table_whole : Sound u × Written m bs (graph u)
+  table_whole = (table_sound, table_written)
 
 pub inside_of : (m : Meaning) (bs : List ℕ) (g : Graph) → Written m bs g → Inside g
 inside_of m bs g w = record { edges = λ n a t l e. (w.within.edges n a t l e).1; roots = w.within.roots }

@@ -33,6 +33,10 @@ attribute_at bs place i = slice_index bs (place + 9 + 3 * i)
 abbrev pub target_at : List ℕ → ℕ → ℕ → ℕ
 target_at bs place i = field bs (place + 9 + 3 * i + 1) 2
 
+-- how long the record is
+abbrev pub record_length : List ℕ → ℕ → ℕ
+record_length bs place = 9 + 3 * count_at bs place
+
 -- the first record stands at the start, and each other where the one before it ends
 abbrev pub start : List ℕ → ℕ → ℕ
 start bs zero = 0

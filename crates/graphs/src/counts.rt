@@ -4,7 +4,7 @@ ghost use Rattle.std.specs.Result.{MatchResult};
 ghost use Rattle.graphs.specs.Reading.{Ground};
 ghost use Rattle.graphs.specs.Rows.{TrailerOf};
 
-use crate::fields::{u16_at, u32_at};
+use crate::fields::number_at;
 use crate::misread::Misread;
 use crate::trailer::Trailer;
 
@@ -16,9 +16,9 @@ pub fn read_trailer(bytes: &[u8]) -> Result<Trailer, Misread>
     if length < 8 {
         return Err(Misread::Short);
     }
-    let nodes = u16_at(bytes, length - 8) as usize;
-    let variables = u16_at(bytes, length - 6) as usize;
-    let place = u32_at(bytes, length - 4) as usize;
+    let nodes = number_at::<2>(bytes, length - 8) as usize;
+    let variables = number_at::<2>(bytes, length - 6) as usize;
+    let place = number_at::<4>(bytes, length - 4) as usize;
     if nodes > 256 || variables > 64 || place + 2 * variables + 8 != length {
         return Err(Misread::Counts);
     }

@@ -1,5 +1,5 @@
 // A graph that its caller holds.
-ghost use Rattle.std.specs.Prelude.{◌≤◌};
+ghost use Rattle.std.specs.Prelude.{◌≤◌, vec_len, vec_capacity};
 ghost use Rattle.features.specs.Numbering.{BreadthFirst};
 ghost use Rattle.tables.specs.Views.{graph, Sound};
 
@@ -11,7 +11,8 @@ pub struct FeatureGraph {
     pub(crate) table: Table,
     pub(crate) spare: Table,
     ghost sound: { ∥ Sound table ∥₁ },
-    ghost room: { ∥ Sound spare ∥₁ },
-    ghost few: { table.used ≤ 256 },
+    ghost few: { vec_len table.rows ≤ 256 },
+    ghost row_room: { 272 ≤ vec_capacity spare.rows },
+    ghost root_room: { 64 ≤ vec_capacity spare.roots },
     ghost ordered: { ∥ BreadthFirst (graph table) ∥₁ },
 }

@@ -1,38 +1,16 @@
 // Numbers of more than one byte, the lowest byte first.
-ghost use Rattle.std.specs.Prelude.{◌≡◌, ◌+◌, ◌≤◌, length};
+ghost use Rattle.std.specs.Prelude.{◌≡◌, ◌+◌, ◌^◌, ◌<◌, ◌≤◌, length, take, drop};
+ghost use Rattle.features.specs.Listing.{little};
 ghost use Rattle.graphs.specs.Listings.{field};
 
-pub fn u16_at(bytes: &[u8], place: usize) -> u16
-    requires { place + 2 ≤ length bytes.now }
-    ensures { result ≡ field bytes.now place 2 }
+pub fn number_at<const WIDTH: usize>(bytes: &[u8], place: usize) -> u64
+    requires width { WIDTH ≤ 8 }
+    requires fits { place + WIDTH ≤ length bytes.now }
+    ensures value { result ≡ field bytes.now place WIDTH }
+    ensures small { result < 256 ^ WIDTH }
+    ensures bytes { little WIDTH result ≡ take WIDTH (drop place bytes.now) }
 {
-    u16::from_le_bytes([bytes[place], bytes[place + 1]])
-}
-
-pub fn u32_at(bytes: &[u8], place: usize) -> u32
-    requires { place + 4 ≤ length bytes.now }
-    ensures { result ≡ field bytes.now place 4 }
-{
-    u32::from_le_bytes([
-        bytes[place],
-        bytes[place + 1],
-        bytes[place + 2],
-        bytes[place + 3],
-    ])
-}
-
-pub fn u64_at(bytes: &[u8], place: usize) -> u64
-    requires { place + 8 ≤ length bytes.now }
-    ensures { result ≡ field bytes.now place 8 }
-{
-    u64::from_le_bytes([
-        bytes[place],
-        bytes[place + 1],
-        bytes[place + 2],
-        bytes[place + 3],
-        bytes[place + 4],
-        bytes[place + 5],
-        bytes[place + 6],
-        bytes[place + 7],
-    ])
+    let mut number = [0; 8];
+    number[..WIDTH].copy_from_slice(&bytes[place..place + WIDTH]);
+    u64::from_le_bytes(number)
 }

@@ -5,11 +5,13 @@ mod attributes;
 mod counts;
 pub mod feature_graph;
 mod fields;
+mod listing;
 pub mod making;
 pub mod misread;
 pub mod naming;
 mod ordering;
 pub mod reading;
+mod record;
 mod records;
 mod roots;
 #[cfg(test)]

@@ -1,5 +1,5 @@
 // Listings read back.
-ghost use Rattle.std.specs.Prelude.{◌≡◌, true, is_ok, MatchResult};
+ghost use Rattle.std.specs.Prelude.{◌≡◌, ◌≤◌, true, is_ok, MatchResult, vec_capacity};
 ghost use Rattle.features.specs.Bytes.{Written};
 ghost use Rattle.features.specs.Graphs.{Graph, SameGraph};
 ghost use Rattle.features.specs.Numbering.{BreadthFirst};
@@ -10,27 +10,29 @@ ghost use Rattle.graphs.specs.Reading.{Ground};
 
 use crate::counts::read_trailer;
 use crate::feature_graph::FeatureGraph;
+use crate::listing::Listing;
 use crate::misread::Misread;
 use crate::ordering::breadth_first;
-use crate::records::read_records;
-use crate::roots::read_roots;
 use kinds::kind::Kind;
 use std::mem;
 use tables::table::Table;
 
 // Makes the table hold the graph whose bytes these are, in listing order; otherwise it holds anything.
 fn read_table<K: Kind>(kind: &K, bytes: &[u8], table: &mut Table) -> Result<(), Misread>
-    requires { Sound table.old }
-    ensures sound { Sound table.new }
-    ensures cases { MatchResult result (λ _. Written (K.meaning kind.now) bytes.now (graph table.new) × BreadthFirst (graph table.new)) (λ e. Ground (K.meaning kind.now) bytes.now e) }
+    requires row_room { 272 ≤ vec_capacity table.old.rows }
+    requires root_room { 64 ≤ vec_capacity table.old.roots }
+    ensures row_room { vec_capacity table.new.rows ≡ vec_capacity table.old.rows }
+    ensures root_room { vec_capacity table.new.roots ≡ vec_capacity table.old.roots }
+    ensures cases { MatchResult result (λ _. Sound table.new × Written (K.meaning kind.now) bytes.now (graph table.new) × BreadthFirst (graph table.new)) (λ e. Ground (K.meaning kind.now) bytes.now e) }
 {
-    table.used = 0;
-    table.vars = 0;
     let trailer = read_trailer(bytes)?;
-    read_records(kind, bytes, trailer, &mut table.rows)?;
-    read_roots(bytes, trailer, &mut table.roots)?;
-    table.used = trailer.nodes;
-    table.vars = trailer.variables;
+    let listing = Listing {
+        kind,
+        bytes,
+        trailer,
+    };
+    listing.read_records(&mut table.rows)?;
+    listing.read_roots(&mut table.roots)?;
     if !breadth_first(table) {
         return Err(Misread::NotInOrder);
     }

@@ -3,27 +3,26 @@ use crate::feature_graph::FeatureGraph;
 use kinds::atoms::Atoms;
 use std::test::Fail;
 
-// 0 where the bytes are read, else the number of the refusal.
-fn refusal(graph: &mut FeatureGraph, bytes: &[u8]) -> u8 {
-    match graph.read(&Atoms, bytes) {
-        Ok(()) => 0,
-        Err(misread) => misread.number(),
-    }
+// What reading answers, with the number of a refusal.
+fn read(graph: &mut FeatureGraph, bytes: &[u8]) -> Result<(), u8> {
+    graph
+        .read(&Atoms, bytes)
+        .map_err(|misread| misread.number())
 }
 
 #[test]
 fn the_last_eight_bytes(rt: HostRuntime) -> Result<(), Fail> {
     let mut graph = FeatureGraph::new(rt.alloc())?;
-    assert_eq!(rt; refusal(&mut graph, &[0; 7]), 13);
-    assert_eq!(rt; refusal(&mut graph, &[0; 8]), 0);
-    assert_eq!(rt; refusal(&mut graph, &[0; 9]), 14);
+    assert_eq!(rt; read(&mut graph, &[0; 7]), Err(13));
+    assert_eq!(rt; read(&mut graph, &[0; 8]), Ok(()));
+    assert_eq!(rt; read(&mut graph, &[0; 9]), Err(14));
     assert_eq!(rt;
-        refusal(&mut graph, &[0, 0, 64, 0, 0x80, 0xff, 0xff, 0xff]),
-        14
+        read(&mut graph, &[0, 0, 64, 0, 0x80, 0xff, 0xff, 0xff]),
+        Err(14)
     );
-    assert_eq!(rt; refusal(&mut graph, &[1, 1, 0, 0, 0, 0, 0, 0]), 14);
-    assert_eq!(rt; refusal(&mut graph, &[1, 0, 0, 0, 0, 0, 0, 0]), 15);
-    assert_eq!(rt; refusal(&mut graph, &[9, 0, 0, 0, 0, 1, 0, 0, 0]), 15);
+    assert_eq!(rt; read(&mut graph, &[1, 1, 0, 0, 0, 0, 0, 0]), Err(14));
+    assert_eq!(rt; read(&mut graph, &[1, 0, 0, 0, 0, 0, 0, 0]), Err(15));
+    assert_eq!(rt; read(&mut graph, &[9, 0, 0, 0, 0, 1, 0, 0, 0]), Err(15));
     Ok(())
 }
 
@@ -31,47 +30,47 @@ fn the_last_eight_bytes(rt: HostRuntime) -> Result<(), Fail> {
 fn one_record(rt: HostRuntime) -> Result<(), Fail> {
     let mut graph = FeatureGraph::new(rt.alloc())?;
     assert_eq!(rt;
-        refusal(
+        read(
             &mut graph,
             &[0, 0, 1, 0, 0, 0, 0, 0, 0, 0, 0, 1, 0, 1, 0, 9, 0, 0, 0],
         ),
-        16
+        Err(16)
     );
     assert_eq!(rt;
-        refusal(
+        read(
             &mut graph,
             &[
                 0, 0, 0, 0, 0, 0, 0, 0, 1, 32, 0, 0, 0, 0, 1, 0, 1, 0, 12, 0, 0, 0,
             ],
         ),
-        17
+        Err(17)
     );
     assert_eq!(rt;
-        refusal(
+        read(
             &mut graph,
             &[
                 0, 0, 0, 0, 0, 0, 0, 0, 1, 31, 1, 0, 0, 0, 1, 0, 1, 0, 12, 0, 0, 0,
             ],
         ),
-        18
+        Err(18)
     );
     assert_eq!(rt;
-        refusal(
+        read(
             &mut graph,
             &[
                 1, 0, 0, 0, 0, 0, 0, 0, 1, 31, 0, 0, 0, 0, 1, 0, 1, 0, 12, 0, 0, 0,
             ],
         ),
-        19
+        Err(19)
     );
     assert_eq!(rt;
-        refusal(
+        read(
             &mut graph,
             &[
                 0, 0, 0, 0, 0, 0, 0, 0, 1, 31, 0, 0, 0, 0, 1, 0, 1, 0, 12, 0, 0, 0,
             ],
         ),
-        0
+        Ok(())
     );
     Ok(())
 }
@@ -79,33 +78,33 @@ fn one_record(rt: HostRuntime) -> Result<(), Fail> {
 #[test]
 fn variables_and_order(rt: HostRuntime) -> Result<(), Fail> {
     let mut graph = FeatureGraph::new(rt.alloc())?;
-    assert_eq!(rt; refusal(&mut graph, &[0, 0, 0, 0, 1, 0, 0, 0, 0, 0]), 18);
+    assert_eq!(rt; read(&mut graph, &[0, 0, 0, 0, 1, 0, 0, 0, 0, 0]), Err(18));
     assert_eq!(rt;
-        refusal(
+        read(
             &mut graph,
             &[0, 0, 0, 0, 0, 0, 0, 0, 0, 1, 0, 0, 0, 9, 0, 0, 0],
         ),
-        20
+        Err(20)
     );
     assert_eq!(rt;
-        refusal(
+        read(
             &mut graph,
             &[
                 7, 0, 0, 0, 0, 0, 0, 0, 0, 8, 0, 0, 0, 0, 0, 0, 0, 0, 1, 0, 0, 0, 2, 0, 2, 0, 18,
                 0, 0, 0,
             ],
         ),
-        20
+        Err(20)
     );
     assert_eq!(rt;
-        refusal(
+        read(
             &mut graph,
             &[
                 7, 0, 0, 0, 0, 0, 0, 0, 0, 8, 0, 0, 0, 0, 0, 0, 0, 0, 0, 0, 1, 0, 2, 0, 2, 0, 18,
                 0, 0, 0,
             ],
         ),
-        0
+        Ok(())
     );
     Ok(())
 }

@@ -11,6 +11,7 @@ use Rattle.features.specs.Terms.{Term, Statement, equals, is, apart}
 use Rattle.features.specs.Graphs.{Denotes}
 use Rattle.features.specs.Closing.{Valued}
 use Rattle.features.specs.Holding.{Sound, Proper, aparts_of}
+use Rattle.features.proofs.Held.{held_shape}
 use Rattle.growth.specs.Standing.{Judged, greatest}
 use Rattle.growth.specs.Theorems.{SameShapeStandsAlike, StandingHolds, HoldingStands, AcceptedHolds, DeclaredHolds}
 use Rattle.growth.proofs.Keeping.{denotes_kept, denotes_before}
@@ -51,7 +52,7 @@ standing_holds m g state kept vars said stands values proper aparts = record {
 
 pub holding_stands : HoldingStands
 holding_stands m g kept vars said holds = record {
-  shape = record { all = holds.all; joined = holds.joined; nothing_else = holds.nothing_else; reached = holds.reached; inside = holds.inside };
+  shape = held_shape m g kept vars said holds;
   judged = λ p n d. greatest (holds.values p n d);
 }
 

@@ -10,29 +10,22 @@ use Rattle.features.specs.Graphs.{Graph, Denotes}
 use Rattle.features.specs.Closing.{Joined, Valued}
 use Rattle.features.specs.Order.{◌≺◌, Trail, InOrder}
 use Rattle.features.specs.Clashes.{First, NoValue, LeafBranches, FirstAt, Nowhere, Broken, here, past}
-use Rattle.features.proofs.Paths.{some_same, some_not_none, leads_same, leads_more, leads_back, denotes_one}
+use Rattle.features.proofs.Held.{trail_first, first_trail}
+use Rattle.features.proofs.Paths.{some_same, some_not_none, leads_same, leads_more, leads_back}
 use Rattle.features.proofs.TotalOrder.{Three, first, second, third, compare, not_both, never, trail_same}
 use Rattle.growth.specs.Standing.{Shape, Judged, greatest, void}
 use Rattle.growth.specs.Joins.{TrailsAreFirst, NamesNoValue, LeafAt, NamesLeafBranches, OneNode, ApartOnOne, NamesBroken}
 
 module _ (m : Meaning) (h : Graph) (vars : ℕ) (said : List Statement) (shape : Shape h vars said) where
-  trail_first : (t : Term) (k : ℕ) → Trail h k t → First m vars said t
-  trail_first t k trail = record {
-    denotes = shape.nothing_else t t k trail.denotes trail.denotes;
-    least = λ p j.
-        let d = shape.joined t p j in
-        trail.first p (subst (λ (z : ℕ). Denotes h p z) (denotes_one h t d.0 k d.1 trail.denotes) d.2);
-  }
-
-  first_trail : (t : Term) → First m vars said t → (k : ℕ) × Trail h k t
-  first_trail t one =
+  trail_of_first : (t : Term) → First m vars said t → (k : ℕ) × Trail h k t
+  trail_of_first t one =
       let d = shape.joined t t one.denotes in
-      (d.0, record { denotes = d.1; first = λ p e. one.least p (shape.nothing_else t p d.0 d.1 e) })
+      (d.0, first_trail m h vars said shape t d.0 d.1 one)
 
   module _ (ordered : InOrder h) (Fault : Term → Type 0) where
     -- the fault of the least node that has one is the first
     first_fault : (k : ℕ) (t : Term) → Trail h k t → Fault t → ((j : ℕ) (u : Term) → j < k → Denotes h u j → Fault u → ⊥) → FirstAt m vars said Fault t
-    first_fault k t trail faulty none_below = record { trail = trail_first t k trail; faulty = faulty; none_before = λ u one less bad. let r = first_trail u one in by_place u less bad r.0 r.1 (compare r.0 k) }
+    first_fault k t trail faulty none_below = record { trail = trail_first m h vars said shape t k trail; faulty = faulty; none_before = λ u one less bad. let r = trail_of_first u one in by_place u less bad r.0 r.1 (compare r.0 k) }
       where
         by_place : (u : Term) → u ≺ t → Fault u → (j : ℕ) → Trail h j u → Three (j < k) (j ≡ k) (k < j) → ⊥
         by_place u less bad j other (first l) = none_below j u l other.denotes bad
@@ -40,7 +33,7 @@ module _ (m : Meaning) (h : Graph) (vars : ℕ) (said : List Statement) (shape :
         by_place u less bad j other (third l) = not_both u t less (ordered.rising k j t u l (shape.inside u j other.denotes) trail other)
 
   no_fault : (Fault : Term → Type 0) → ((j : ℕ) (u : Term) → j < h.nodes → Denotes h u j → Fault u → ⊥) → Nowhere m vars said Fault
-  no_fault Fault none-there t one bad = let r = first_trail t one in none-there r.0 t (shape.inside t r.0 r.1.denotes) r.1.denotes bad
+  no_fault Fault none-there t one bad = let r = trail_of_first t one in none-there r.0 t (shape.inside t r.0 r.1.denotes) r.1.denotes bad
 
   one_node : (p q : Term) → Joined vars said p q ↔ OneNode h p q
   one_node p q = (shape.joined p q, λ d. shape.nothing_else p q d.0 d.1 d.2)
@@ -57,7 +50,7 @@ module _ (m : Meaning) (h : Graph) (vars : ℕ) (said : List Statement) (shape :
   one_broken (apart p q ∷ rest) zero a = here ((one_node p q).1 a)
 
 pub trails_are_first : TrailsAreFirst
-trails_are_first m h vars said shape t = (λ r. trail_first m h vars said shape t r.0 r.1, first_trail m h vars said shape t)
+trails_are_first m h vars said shape t = (λ r. trail_first m h vars said shape t r.0 r.1, trail_of_first m h vars said shape t)
 
 pub names_broken : NamesBroken
 names_broken m h vars said shape = (one_node m h vars said shape, λ kept i. (broken_one m h vars said shape, one_broken m h vars said shape kept i))

@@ -1,20 +1,13 @@
 -- A graph in which every node has either a value or a contradiction, and which stands for what was said: the graph of a session
 -- while a statement is being closed, before it is known whether the statement is accepted.
-use Rattle.std.specs.Prelude.{◌≡◌, true, List, ℕ, ◌<◌}
+use Rattle.std.specs.Prelude.{◌≡◌, true, List, ℕ}
 use Rattle.std.proofs.Math.Option.{Option, some, none}
 use Rattle.kinds.specs.Meaning.{Meaning}
 use Rattle.features.specs.Terms.{Term, Statement}
 use Rattle.features.specs.Graphs.{Graph, Denotes}
-use Rattle.features.specs.Closing.{Joined, Valued}
+use Rattle.features.specs.Closing.{Valued}
+pub use Rattle.features.specs.Holding.{Shape}
 use Rattle.features.specs.Clashes.{NoValue}
-
--- the graph joins exactly what closing joins, and has no node besides those that terms denote
-pub record Shape (g : Graph) (vars : ℕ) (said : List Statement) : Type 0 where
-  pub all : g.vars ≡ vars
-  pub joined : (p q : Term) → Joined vars said p q → (n : ℕ) × Denotes g p n × Denotes g q n
-  pub nothing_else : (p q : Term) (n : ℕ) → Denotes g p n → Denotes g q n → Joined vars said p q
-  pub reached : (n : ℕ) → n < g.nodes → (p : Term) × Denotes g p n
-  pub inside : (p : Term) (n : ℕ) → Denotes g p n → n < g.nodes
 
 -- what stands on the node of p: the greatest value at or below all that came to it, or nothing where there is no such value
 pub data Judged (m : Meaning) (vars : ℕ) (said : List Statement) (p : Term) : Option ℕ → Type 0 where

@@ -2,68 +2,46 @@
 // the functions do nothing else.
 ghost use Rattle.growth.specs.Joins.{JoinStands, ValueStands, TrailsAreFirst, NamesNoValue, NamesLeafBranches, NamesBroken, RenumberedQuotient, RenumberedDenotes, RenumberedStands, SameShapeInOrder, NumberedJoinStands};
 
-pub fn join_stands() -> u8
+pub fn join_stands()
     ensures { JoinStands }
-{
-    0
-}
+{}
 
-pub fn value_stands() -> u8
+pub fn value_stands()
     ensures { ValueStands }
-{
-    0
-}
+{}
 
-pub fn trails_are_first() -> u8
+pub fn trails_are_first()
     ensures { TrailsAreFirst }
-{
-    0
-}
+{}
 
-pub fn names_no_value() -> u8
+pub fn names_no_value()
     ensures { NamesNoValue }
-{
-    0
-}
+{}
 
-pub fn names_leaf_branches() -> u8
+pub fn names_leaf_branches()
     ensures { NamesLeafBranches }
-{
-    0
-}
+{}
 
-pub fn names_broken() -> u8
+pub fn names_broken()
     ensures { NamesBroken }
-{
-    0
-}
+{}
 
-pub fn renumbered_quotient() -> u8
+pub fn renumbered_quotient()
     ensures { RenumberedQuotient }
-{
-    0
-}
+{}
 
-pub fn renumbered_denotes() -> u8
+pub fn renumbered_denotes()
     ensures { RenumberedDenotes }
-{
-    0
-}
+{}
 
-pub fn renumbered_stands() -> u8
+pub fn renumbered_stands()
     ensures { RenumberedStands }
-{
-    0
-}
+{}
 
-pub fn same_shape_in_order() -> u8
+pub fn same_shape_in_order()
     ensures { SameShapeInOrder }
-{
-    0
-}
+{}
 
-pub fn numbered_join_stands() -> u8
+pub fn numbered_join_stands()
     ensures { NumberedJoinStands }
-{
-    0
-}
+{}

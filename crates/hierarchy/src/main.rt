@@ -3,38 +3,34 @@
 
 use anyhow::anyhow;
 use hierarchy_text::{Refusal, Report, Sheet};
-use std::io;
+use std::fmt::Display;
+use std::io::{self, Print};
 
 fn main(rt: HostRuntime) -> anyhow::Result<()> {
     let heap = rt.alloc();
-    let text = match io::read_to_string(heap, rt.stdin()) {
-        Ok(text) => text,
-        Err(error) => {
-            println!(rt; "The input cannot be read: {error}.")?;
-            return Err(anyhow!("not accepted"));
-        }
-    };
-    let sheet = match Sheet::read(heap, text.as_str()) {
-        Ok(sheet) => sheet,
-        Err(fault) => {
-            println!(rt; "{fault}")?;
-            return Err(anyhow!("not accepted"));
-        }
-    };
-    match sheet.hierarchy() {
-        Ok(types) => {
-            rt.print(Report {
-                sheet: &sheet,
-                types: &types,
-            })?;
-            Ok(())
-        }
-        Err(objection) => {
-            rt.println(Refusal {
+    let text = io::read_to_string(heap, rt.stdin()).or_else(|error| refuse(
+        &rt,
+        format_args!("The input cannot be read: {error}."),
+    ))?;
+    let sheet = Sheet::read(heap, text.as_str()).or_else(|fault| refuse(&rt, fault))?;
+    let types = sheet.hierarchy().or_else(|objection| {
+        refuse(
+            &rt,
+            Refusal {
                 sheet: &sheet,
                 objection,
-            })?;
-            Err(anyhow!("not accepted"))
-        }
-    }
+            },
+        )
+    })?;
+    rt.print(Report {
+        sheet: &sheet,
+        types: &types,
+    })?;
+    Ok(())
+}
+
+// Says why the input is not accepted.
+fn refuse<T>(rt: &impl Print, why: impl Display + Drop) -> anyhow::Result<T> {
+    rt.println(why)?;
+    Err(anyhow!("not accepted"))
 }

@@ -1,5 +1,5 @@
 -- The types above a type: those right above it, and those at or above it.
-use Rattle.std.proofs.Common.{◌≡◌, ℕ, suc, ◌+◌, ◌*◌, ◌%◌, ◌^◌, ◌<◌, ◌≤◌, true, false, List, [], length, take, sym, ap, subst, inl, inr, arith}
+use Rattle.std.proofs.Common.{◌≡◌, ℕ, suc, ◌+◌, ◌*◌, ◌%◌, ◌^◌, ◌<◌, ◌≤◌, true, List, [], length, take, sym, ap, subst, inl, inr, arith}
 use mathlib.Core.List.Memᴰ
 use lib.Bits.{bit_or}
 use Rattle.std.proofs.lemmas.Nat.{one_shl}
@@ -59,16 +59,6 @@ module _ {n : ℕ} (links : List Link) (up : AllUpward n links) (t : ℕ) where
     λ x h. subst (λ (y : ℕ). Up links t y) (sym (only_one t x h)) stay,
     has_one t,
     λ y x l h m. let e = only_one t y h in absurd (omega arith),
-  )
-
-  pub rising_skip : (k set : ℕ) → has set k ≡ false → Rising links t (suc k) set → Rising links t k set
-  rising_skip k set bare r = (
-    r.0,
-    r.1,
-    λ y x l h m. elim (cases_eq y k) [
-      | inl e ↦ absurd (both_ways (has set k) bare (subst (λ (z : ℕ). has set z ≡ true) e h))
-      | inr ne ↦ r.2 y x (omega arith) h m
-    ],
   )
 
   pub rising_more : (k set more : ℕ) → has set k ≡ true → Supertypes links k more → Rising links t (suc k) set → Rising links t k (bit_or set more)

@@ -13,14 +13,6 @@ abbrev pub misfit_of : Objection → Misfit
 misfit_of (NoGreatest a b) = misfit.NoGreatest a b
 misfit_of (WrongMark t) = misfit.WrongMark t
 
--- the grounds that a hierarchy can still be refused on when it is read: its types are counted, and all links are there and go up
-abbrev pub LeftOpen : Misfit → Type 0
-LeftOpen misfit.WrongCount = ⊥
-LeftOpen (misfit.WrongLink i) = ⊥
-LeftOpen (misfit.Unlinked t) = ⊥
-LeftOpen (misfit.NoGreatest a b) = Unit {0}
-LeftOpen (misfit.WrongMark t) = Unit {0}
-
 -- what an objection names is a type
 abbrev pub NamesTypes : ℕ → Objection → Type 0
 NamesTypes n (NoGreatest a b) = (a < n) × (b < n)

@@ -9,9 +9,9 @@ use kinds::types::{Link, has_bit};
 impl Sheet {
     // The set of the types at or above a type, which is empty for a number that is no type.
     pub fn at_or_above(&self, t: u16) -> u64
-        ensures { Above (vec_len self.now.entries) self.now.links.items t result }
+        ensures { Above (vec_len self.now.entries.list) self.now.links.items t result }
     {
-        if t as usize >= self.entries.len() {
+        if t as usize >= self.entries.list.len() {
             return 0;
         }
         let mut set = 1u64 << t;

@@ -1,6 +1,8 @@
 // A line of the notation: a name, then a colon and its supertypes, then a mark.
 use crate::fault::Fault;
 use std::alloc::Global;
+use texts::line::Line;
+use texts::named::Named;
 
 // A type as a line has it.
 #[derive(Drop)]
@@ -13,47 +15,38 @@ pub struct Entry {
 
 impl Entry {
     // The type of a line, or none where nothing stands there but a comment.
-    pub fn read(heap: Global, line: usize, text: &str) -> Result<Option<Entry>, Fault> {
-        let text = without_comment(text);
-        if text.is_empty() {
+    pub fn read(heap: Global, line: Line) -> Result<Option<Entry>, Fault> {
+        if line.text.is_empty() {
             return Ok(None);
         }
-        let (text, leaf) = without_mark(text);
+        let (text, leaf) = without_mark(line.text);
         let (name, words) = text.split_once(':').unwrap_or((text, ""));
-        let name = read_name(heap, line, name.trim())?;
-        let supertypes = read_supertypes(heap, line, words)?;
         Ok(Some(Entry {
-            line,
-            name,
-            supertypes,
+            line: line.number,
+            name: read_name(heap, line.number, name.trim())?,
+            supertypes: words
+                .split_whitespace()
+                .map(|word| read_name(heap, line.number, word))
+                .try_collect(heap)?,
             leaf,
         }))
     }
 }
 
-// What stands before a comment.
-fn without_comment(text: &str) -> &str {
-    match text.split_once('#') {
-        Some((before, _)) => before.trim(),
-        None => text.trim(),
+impl Named for Entry {
+    ghost use Rattle.hierarchy_text.specs.Names.{name_of};
+
+    ghost name_of = { name_of };
+
+    fn name(&self) -> &str {
+        self.name.as_str()
     }
 }
 
 // What stands before the mark for leaves, and whether there is one.
 fn without_mark(text: &str) -> (&str, bool) {
-    match text.strip_suffix('!') {
-        Some(before) => (before, true),
-        None => (text, false),
-    }
-}
-
-fn is_name(word: &str) -> bool {
-    for b in word.bytes() {
-        if !b.is_ascii_graphic() || b == b':' || b == b'!' || b == b'#' {
-            return false;
-        }
-    }
-    !word.is_empty()
+    text.strip_suffix('!')
+        .map_or((text, false), |before| (before, true))
 }
 
 fn read_name(heap: Global, line: usize, word: &str) -> Result<String, Fault> {
@@ -61,16 +54,14 @@ fn read_name(heap: Global, line: usize, word: &str) -> Result<String, Fault> {
         return Err(Fault::NoName(line));
     }
     let name = String::from_str(heap, word)?;
-    if !is_name(word) {
-        return Err(Fault::WrongName(line, name));
+    if word.bytes().all(is_of_name) {
+        Ok(name)
+    } else {
+        Err(Fault::WrongName(line, name))
     }
-    Ok(name)
 }
 
-fn read_supertypes(heap: Global, line: usize, words: &str) -> Result<Vec<String>, Fault> {
-    let mut supertypes = Vec::new(heap);
-    for word in words.split_whitespace() {
-        supertypes.push(read_name(heap, line, word)?)?;
-    }
-    Ok(supertypes)
+// Can a name have this byte?
+fn is_of_name(byte: u8) -> bool {
+    byte.is_ascii_graphic() && !matches!(byte, b':' | b'!' | b'#')
 }

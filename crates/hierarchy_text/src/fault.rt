@@ -1,81 +1,36 @@
 // What can be wrong with the notation.
-use std::alloc::{AllocError, AllocFailed};
-use std::fmt;
+use std::alloc::AllocError;
+use thiserror::Error;
 
 // Each case but the first two begins with the line at fault, counted from 1.
-#[derive(Debug, Drop)]
+#[derive(Debug, Drop, Error)]
 pub enum Fault {
-    Memory,
+    #[error("There is not enough memory.")]
+    Memory(#[from(alloc)] AllocError),
     // no line names a type
+    #[error("No line names a type. The first type is the top.")]
     Empty,
     // no name before the colon or the mark
+    #[error("Line {0}: there is no name at the start of the line.")]
     NoName(usize),
     // what stands there for a name is none
+    #[error("Line {0}: `{1}` is no name. A name is one word of visible ASCII characters other than `:`, `!` and `#`.")]
     WrongName(usize, String),
     // the name has a line above already
+    #[error("Line {0}: the type `{1}` stands on line {2} already.")]
     Repeated(usize, String, usize),
+    #[error("Line {0}: this is one type too many. There can be 64.")]
     TooMany(usize),
     // the first type has a supertype
+    #[error("Line {0}: `{1}` is the first type, which is the top, and so has no supertype.")]
     TopBelow(usize, String),
     // a later type has none
+    #[error("Line {0}: `{1}` has no supertype. Every type but the first has at least one.")]
     NoSupertype(usize, String),
     // no line has the supertype
+    #[error("Line {0}: no line has the supertype `{1}`.")]
     Unknown(usize, String),
     // the supertype does not stand above its subtype, but on this line
+    #[error("Line {0}: the supertype `{1}` stands on line {2}. A supertype stands above its subtypes.")]
     NotAbove(usize, String, usize),
-}
-
-impl From<AllocError> for Fault {
-    fn from(_e: AllocError) -> Fault {
-        Fault::Memory
-    }
-}
-
-impl<T: Drop> From<AllocFailed<T>> for Fault {
-    fn from(_e: AllocFailed<T>) -> Fault {
-        Fault::Memory
-    }
-}
-
-impl fmt::Display for Fault {
-    fn fmt<W: fmt::Write>(&self, f: &mut fmt::Formatter<W>) -> fmt::Result {
-        match self {
-            Fault::Memory => write!(f, "There is not enough memory."),
-            Fault::Empty => write!(f, "No line names a type. The first type is the top."),
-            Fault::NoName(line) => write!(
-                f,
-                "Line {line}: there is no name at the start of the line."
-            ),
-            Fault::WrongName(line, name) => write!(
-                f,
-                "Line {line}: `{name}` is no name. A name is one word of visible ASCII characters other than `:`, `!` and `#`."
-            ),
-            Fault::Repeated(line, name, first) => {
-                write!(
-                    f,
-                    "Line {line}: the type `{name}` stands on line {first} already."
-                )
-            }
-            Fault::TooMany(line) => write!(
-                f,
-                "Line {line}: this is one type too many. There can be 64."
-            ),
-            Fault::TopBelow(line, name) => write!(
-                f,
-                "Line {line}: `{name}` is the first type, which is the top, and so has no supertype."
-            ),
-            Fault::NoSupertype(line, name) => write!(
-                f,
-                "Line {line}: `{name}` has no supertype. Every type but the first has at least one."
-            ),
-            Fault::Unknown(line, name) => write!(
-                f,
-                "Line {line}: no line has the supertype `{name}`."
-            ),
-            Fault::NotAbove(line, name, at) => write!(
-                f,
-                "Line {line}: the supertype `{name}` stands on line {at}. A supertype stands above its subtypes."
-            ),
-        }
-    }
 }

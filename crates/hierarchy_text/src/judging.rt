@@ -1,6 +1,6 @@
 // What a hierarchy that is written well comes to.
-ghost use Rattle.std.specs.Prelude.{◌≡◌, vec_len};
-ghost use Rattle.hierarchy_text.specs.Judging.{Judged, LeftOpen, misfit_of};
+ghost use Rattle.std.specs.Prelude.{vec_len};
+ghost use Rattle.hierarchy_text.specs.Judging.{Judged};
 
 use crate::sheet::Sheet;
 use kinds::types::{Misfit, Types};
@@ -17,24 +17,17 @@ pub enum Objection {
 impl Sheet {
     // The hierarchy that is written, or why there is none. No other ground to refuse it is left.
     pub fn hierarchy(&self) -> Result<Types, Objection>
-        ensures { Judged (vec_len self.now.entries) self.now.links.items self.now.marks result }
+        ensures { Judged (vec_len self.now.entries.list) self.now.links.items self.now.marks result }
     {
         let mut types = Types::fresh();
-        match types.fill(self.entries.len() as u16, self.links.as_slice(), self.marks) {
+        let count = self.entries.list.len() as u16;
+        match types.fill(count, self.links.as_slice(), self.marks) {
             Ok(()) => Ok(types),
-            Err(misfit) => Err(objection_of(misfit)),
+            Err(Misfit::NoGreatest(a, b)) => Err(Objection::NoGreatest(a, b)),
+            Err(Misfit::WrongMark(t)) => Err(Objection::WrongMark(t)),
+            Err(Misfit::WrongCount) => unreachable(),
+            Err(Misfit::WrongLink(_)) => unreachable(),
+            Err(Misfit::Unlinked(_)) => unreachable(),
         }
-    }
-}
-
-// The objection of one of the grounds that reading leaves open.
-fn objection_of(misfit: Misfit) -> Objection
-    requires { LeftOpen misfit }
-    ensures { misfit_of result ≡ misfit }
-{
-    match misfit {
-        Misfit::NoGreatest(a, b) => Objection::NoGreatest(a, b),
-        Misfit::WrongMark(t) => Objection::WrongMark(t),
-        Misfit::WrongCount | Misfit::WrongLink(_) | Misfit::Unlinked(_) => unreachable(),
     }
 }

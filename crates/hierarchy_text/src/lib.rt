@@ -2,11 +2,11 @@
 #![tactic(auto)]
 
 mod above;
+mod entries;
 mod entry;
 mod fault;
 mod judging;
-mod names;
-mod reading;
+mod links;
 mod refusal;
 mod report;
 mod sheet;

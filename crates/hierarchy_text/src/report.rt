@@ -17,63 +17,104 @@ pub struct Report<'a> {
 
 impl fmt::Display for Report<'_> {
     fn fmt<W: fmt::Write>(&self, f: &mut fmt::Formatter<W>) -> fmt::Result {
-        let entries = self.sheet.entries.as_slice();
+        let entries = self.sheet.entries.list.as_slice();
         let count = entries.len();
-        let width = longest(entries);
+        let columns = Columns {
+            report: self,
+            entries,
+            width: longest(entries),
+        };
         writeln!(f, "Accepted. Types: {count}.\n")?;
-        for entry in entries {
-            write_entry(f, entry, width)?;
-        }
-        if (width.saturating_add(2)).saturating_mul(count.saturating_add(1)) <= WIDEST {
-            self.write_table(f, width)
+        columns.write_entries(f)?;
+        if (columns.width.saturating_add(2)).saturating_mul(count.saturating_add(1)) <= WIDEST {
+            columns.write_table(f)
         } else {
-            self.write_list(f, width)
+            columns.write_list(f)
         }
     }
 }
 
-impl Report<'_> {
-    // A row and a column for each type.
-    fn write_table<W: fmt::Write>(&self, f: &mut fmt::Formatter<W>, width: usize) -> fmt::Result {
-        writeln!(f, "\nMeets (`-`: none):\n")?;
-        write!(f, "  {:>width$}", "")?;
-        for entry in self.sheet.entries.iter() {
-            let name = entry.name.as_str();
-            write!(f, "  {name:>width$}")?;
-        }
-        writeln!(f, "")?;
-        for a in 0..self.sheet.entries.len() {
-            self.write_row(f, a as u64, width)?;
+// The length of the longest name.
+fn longest(entries: &[Entry]) -> usize {
+    entries
+        .iter()
+        .map(|entry| entry.name.len())
+        .max()
+        .unwrap_or(0)
+}
+
+// A report in columns as wide as the longest name.
+#[derive(Drop)]
+struct Columns<'a> {
+    report: &'a Report<'a>,
+    entries: &'a [Entry],
+    width: usize,
+}
+
+impl Columns<'_> {
+    // Each type with its supertypes and its mark, in the notation.
+    fn write_entries<W: fmt::Write>(&self, f: &mut fmt::Formatter<W>) -> fmt::Result {
+        for entry in self.entries {
+            self.write_entry(f, entry)?;
         }
         Ok(())
     }
 
+    fn write_entry<W: fmt::Write>(&self, f: &mut fmt::Formatter<W>, entry: &Entry) -> fmt::Result {
+        let name = entry.name.as_str();
+        if entry.supertypes.is_empty() {
+            return writeln!(f, "  {name}");
+        }
+        let width = self.width;
+        write!(f, "  {name:width$} :")?;
+        for supertype in &entry.supertypes {
+            write!(f, " {supertype}")?;
+        }
+        writeln!(f, "{}", if entry.leaf { " !" } else { "" })
+    }
+
+    // A row and a column for each type.
+    fn write_table<W: fmt::Write>(&self, f: &mut fmt::Formatter<W>) -> fmt::Result {
+        writeln!(f, "\nMeets (`-`: none):\n")?;
+        self.write_cell(f, "")?;
+        for entry in self.entries {
+            self.write_cell(f, entry.name.as_str())?;
+        }
+        writeln!(f, "")?;
+        for (a, entry) in self.entries.iter().enumerate() {
+            self.write_row(f, a as u64, entry)?;
+        }
+        Ok(())
+    }
+
+    // The meets of a type with each.
     fn write_row<W: fmt::Write>(
         &self,
         f: &mut fmt::Formatter<W>,
         a: u64,
-        width: usize,
+        entry: &Entry,
     ) -> fmt::Result {
-        let name = self.sheet.name(a);
-        write!(f, "  {name:>width$}")?;
-        for b in 0..self.sheet.entries.len() {
-            let meet = match self.types.meet(a, b as u64) {
-                Some(c) => self.sheet.name(c),
-                None => "-",
-            };
-            write!(f, "  {meet:>width$}")?;
+        self.write_cell(f, entry.name.as_str())?;
+        for b in 0..self.entries.len() as u64 {
+            let meet = self.report.types.meet(a, b);
+            self.write_cell(f, meet.map_or("-", |c| self.report.sheet.name(c)))?;
         }
         writeln!(f, "")
     }
 
+    fn write_cell<W: fmt::Write>(&self, f: &mut fmt::Formatter<W>, name: &str) -> fmt::Result {
+        let width = self.width;
+        write!(f, "  {name:>width$}")
+    }
+
     // A line for each two types that have a meet other than themselves.
-    fn write_list<W: fmt::Write>(&self, f: &mut fmt::Formatter<W>, width: usize) -> fmt::Result {
+    fn write_list<W: fmt::Write>(&self, f: &mut fmt::Formatter<W>) -> fmt::Result {
         writeln!(
             f,
             "\nMeets of types of which neither is at or below the other (a pair that is not listed has none):\n"
         )?;
-        for a in 0..self.sheet.entries.len() {
-            self.write_meets_of(f, a as u64, width)?;
+        for (a, entry) in self.entries.iter().enumerate() {
+            self.write_meets_of(f, a, entry)?;
         }
         Ok(())
     }
@@ -81,47 +122,19 @@ impl Report<'_> {
     fn write_meets_of<W: fmt::Write>(
         &self,
         f: &mut fmt::Formatter<W>,
-        a: u64,
-        width: usize,
+        a: usize,
+        entry: &Entry,
     ) -> fmt::Result {
-        let first = self.sheet.name(a);
-        for b in a..self.sheet.entries.len() as u64 {
-            if let Some(c) = self.types.meet(a, b) {
-                if c != a && c != b {
-                    let second = self.sheet.name(b);
-                    let meet = self.sheet.name(c);
-                    writeln!(f, "  {first:width$} & {second:width$} = {meet}")?;
-                }
+        let width = self.width;
+        let first = entry.name.as_str();
+        for (b, entry) in self.entries.iter().enumerate().skip(a) {
+            let (a, b) = (a as u64, b as u64);
+            if let Some(c) = self.report.types.meet(a, b).filter(|c| *c != a && *c != b) {
+                let second = entry.name.as_str();
+                let meet = self.report.sheet.name(c);
+                writeln!(f, "  {first:width$} & {second:width$} = {meet}")?;
             }
         }
         Ok(())
     }
-}
-
-// The length of the longest name.
-fn longest(entries: &[Entry]) -> usize {
-    let mut most = 0;
-    for entry in entries {
-        most = most.max(entry.name.len());
-    }
-    most
-}
-
-// A type with its supertypes and its mark, in the notation.
-fn write_entry<W: fmt::Write>(
-    f: &mut fmt::Formatter<W>,
-    entry: &Entry,
-    width: usize,
-) -> fmt::Result {
-    let name = entry.name.as_str();
-    if entry.supertypes.is_empty() {
-        return writeln!(f, "  {name}");
-    }
-    write!(f, "  {name:width$} :")?;
-    for supertype in entry.supertypes.iter() {
-        let above = supertype.as_str();
-        write!(f, " {above}")?;
-    }
-    let mark = if entry.leaf { " !" } else { "" };
-    writeln!(f, "{mark}")
 }

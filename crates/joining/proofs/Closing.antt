@@ -1,13 +1,13 @@
 -- Joining two nodes step by step: what holds between the steps, that a step keeps it, and what it says when nothing waits any more.
 use Rattle.std.proofs.Common.{◌≡◌, ℕ, ◌<◌, true, ◌⊎◌, sym, refl, ap, ◌∙◌, subst, inl, inr}
-use mathlib.Core.Option.{Option, some, none, map, map-eq-some_iff}
+use mathlib.Core.Option.{Option, some, none, map, map-eq-some_iff, or_else}
 use Rattle.std.proofs.lemmas.Bool.{cases_eq}
 use Rattle.kinds.specs.Meaning.{Meaning, Lawful}
 use Rattle.features.specs.Graphs.{Graph}
 use Rattle.growth.specs.Standing.{Meets}
 use Rattle.growth.specs.Changes.{Congruent, stated, itself, turned, chained, beneath}
 use Rattle.growth.specs.Joins.{Representatives}
-use Rattle.joining.specs.Uniting.{or_else, Takes, Relabels, Meeting}
+use Rattle.joining.specs.Uniting.{Takes, Relabels, Meeting}
 use Rattle.joining.proofs.Meeting.{meets_same, meets_both, meets_alone}
 
 -- joined already, or once all that waits is joined
@@ -190,6 +190,7 @@ module _ (m : Meaning) (s t : ℕ) (g : Graph) (state : ℕ → Option ℕ) (rep
     Origin r a k = (x : ℕ) × (x < g.nodes) × (rep' x ≡ r) × (g.edge x a ≡ some k)
 
     edges_at_to : (a k : ℕ) (o : Option ℕ) → edge to a ≡ o → or_else o (edge from a) ≡ some k → Origin to a k
+    unfolding or_else
     edges_at_to a k (some j) e f = let p = now.edges to a k to_inside to_itself (e ∙ f) in (p.0, p.1, stays p.0 p.1 p.2, p.3)
     edges_at_to a k none e f = let p = now.edges from a k from_inside from_itself f in (p.0, p.1, relabels.moved p.0 p.1 p.2, p.3)
 
@@ -210,10 +211,12 @@ module _ (m : Meaning) (s t : ℕ) (g : Graph) (state : ℕ → Option ℕ) (rep
 
     from_taken : (a y k : ℕ) (o : Option ℕ) → edge to a ≡ o → edge from a ≡ some k → Linked g.nodes rep' W' k y
         → (j : ℕ) × (or_else o (edge from a) ≡ some j) × Linked g.nodes rep' W' j y
+    unfolding or_else
     from_taken a y k (some j) e f l = (j, refl, through (waits (takes.owed a j k e f)) l)
     from_taken a y k none e f l = (k, f, l)
 
     complete_then : (x a y : ℕ) → x < g.nodes → g.edge x a ≡ some y → LeadsOn x a y
+    unfolding or_else
     complete_then x a y l e = by_class (went x l) (cases_eq (rep x) to)
       where
         old : (k : ℕ) × (edge (rep x) a ≡ some k) × Linked g.nodes rep W k y

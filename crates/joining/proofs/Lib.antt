@@ -1,6 +1,6 @@
 pub mod Meeting
 pub mod Closing
 pub mod Taking
-pub mod Targets
+pub mod Changing
 pub mod Steps
 pub mod Turns

@@ -1,18 +1,15 @@
 -- One class becomes part of another: the parts of the step put together, and what is counted.
-use Rattle.std.proofs.Common.{◌≡◌, ℕ, zero, suc, ◌<◌, ◌≤◌, Bool, cond, eqb, ◌⊎◌, List, [], ◌∷◌, length, get_or, vec_items, vec_len, sym, refl, ap, ◌∙◌, subst, inl, inr, mul-one, arith, eq-eqb, ne_eqb}
-use mathlib.Core.Option.{Option, some, none}
+use Rattle.std.proofs.Common.{◌≡◌, ℕ, zero, suc, ◌<◌, ◌≤◌, Bool, cond, eqb, ◌⊎◌, List, [], ◌∷◌, length, get_or, sym, refl, ap, ◌∙◌, subst, inl, inr, mul-one, arith, eq-eqb, ne_eqb}
+use mathlib.Core.Option.{Option, some, or_else}
 use mathlib.Core.List.Memᴰ
 use Rattle.std.proofs.lemmas.Bool.{cases_eq}
 use Rattle.kinds.specs.Meaning.{Meaning}
 use Rattle.features.specs.Listing.{count}
 use Rattle.features.proofs.Bytes.{count_more, count_same, count_constant}
 use Rattle.growth.specs.Standing.{Meets}
-use Rattle.tables.specs.declared.table.Table.{Table}
-use Rattle.tables.specs.Views.{graph, Sound}
 use Rattle.joining.specs.declared.workspace.Pair.{Pair}
-use Rattle.joining.specs.Uniting.{or_else, Takes, Relabels, representatives}
-use Rattle.joining.specs.declared.workspace.Workspace.{Workspace}
-use Rattle.joining.specs.Workspaces.{Waits, Put}
+use Rattle.joining.specs.Uniting.{Takes, Relabels, representatives}
+use Rattle.joining.specs.Workspaces.{Waits}
 
 pub states_met : (m : Meaning) (a b r a' b' r' : Option ℕ) → a ≡ a' → b ≡ b' → r ≡ r' → Meets m (λ o. (o ≡ a) ⊎ (o ≡ b)) r → Meets m (λ o. (o ≡ a') ⊎ (o ≡ b')) r'
 states_met m a b r a' b' r' e f d meets =
@@ -45,41 +42,6 @@ pub relabels_fewer : (n k : ℕ) (rep rep' : ℕ → ℕ) (to from : ℕ) → k 
 relabels_fewer n k rep rep' to from l relabels = record {
   moved = λ x h. relabels.moved x (omega arith);
   stayed = λ x h. relabels.stayed x (omega arith);
-}
-
--- a table whose targets are in use keeps them so
-pub takes_sound : (t t' : Table) (W W' : ℕ → ℕ → Type 0) (to from : ℕ) → Sound t → to < t.used → from < t.used
-    → t'.used ≡ t.used → t'.vars ≡ t.vars → t'.roots ≡ t.roots → vec_len t'.rows ≡ 272
-    → Takes (graph t).edge W to from (graph t').edge W' → Sound t'
-takes_sound t t' W W' to from sound l k used vars roots rows takes = record {
-  rows = rows;
-  used = omega (arith, sound.used);
-  roots = ap vec_len roots ∙ sound.roots;
-  vars = omega (arith, sound.vars);
-  edges_inside = λ n a j h e. inside n a j (omega arith) e (cases_eq n to);
-  roots_inside = λ x h. let i = sound.roots_inside x (omega arith) in let same : (graph t').root x ≡ (graph t).root x = ap (λ z. get_or (vec_items z) x 0) roots in omega arith;
-}
-  where
-    of_two : (a j : ℕ) (o : Option ℕ) → (graph t).edge to a ≡ o → or_else o ((graph t).edge from a) ≡ some j → j < t.used
-    of_two a j (some i) e f = sound.edges_inside to a j l (e ∙ f)
-    of_two a j none e f = sound.edges_inside from a j k f
-
-    inside : (n a j : ℕ) → n < t.used → (graph t').edge n a ≡ some j → (n ≡ to) ⊎ (n ≡ to → ⊥) → j < t'.used
-    inside n a j h e (inl d) =
-        let i = of_two a j ((graph t).edge to a) refl (sym (takes.merged a) ∙ subst (λ (z : ℕ). (graph t').edge z a ≡ some j) d e) in omega arith
-    inside n a j h e (inr d) = let i = sound.edges_inside n a j h (sym (takes.others n a d) ∙ e) in omega arith
-
-pub put_sound : (s : ℕ) (o : Option ℕ) (w w' : Workspace) → Put s o w w' → Sound w.table → Sound w'.table
-put_sound s o w w' put sound = record {
-  rows = put.rows ∙ sound.rows;
-  used = omega (arith, sound.used, put.used);
-  roots = ap vec_len put.roots ∙ sound.roots;
-  vars = omega (arith, sound.vars, put.vars);
-  edges_inside = λ n a j h e. let i = sound.edges_inside n a j (omega (arith, put.used)) (sym (put.edges n a) ∙ e) in omega (arith, put.used);
-  roots_inside = λ x h.
-      let i = sound.roots_inside x (omega (arith, put.vars)) in
-      let same : (graph w'.table).root x ≡ (graph w.table).root x = ap (λ z. get_or (vec_items z) x 0) put.roots in
-      omega (arith, put.used);
 }
 
 -- the pair that has waited longest, and the others

@@ -1,15 +1,10 @@
 -- One node of a graph becomes part of another.
 use Rattle.std.specs.Prelude.{◌≡◌, ℕ, ◌<◌, cond, ◌⊎◌, List, [], ◌∷◌, ◌++◌, ◌==◌, ◌≢◌}
-use Rattle.std.proofs.Math.Option.{Option, some, none}
+use Rattle.std.proofs.Math.Option.{Option, some, none, or_else}
 use Rattle.kinds.specs.Meaning.{Meaning}
 use Rattle.features.specs.Listing.{count}
 use Rattle.growth.specs.Standing.{Meets}
 use Rattle.joining.specs.declared.workspace.Pair.{Pair}
-
--- the first of two that is there
-abbrev pub or_else : Option ℕ → Option ℕ → Option ℕ
-or_else (some u) o = some u
-or_else none o = o
 
 -- node `to` has the attributes of `from` besides its own; where an attribute of both leads waits to be joined
 pub record Takes (edge : ℕ → ℕ → Option ℕ) (W : ℕ → ℕ → Type 0) (to from : ℕ) (edge' : ℕ → ℕ → Option ℕ) (W' : ℕ → ℕ → Type 0) : Type 0 where
@@ -29,17 +24,16 @@ pub record Meeting (m : Meaning) (stands : ℕ → Option ℕ) (to from : ℕ) (
   pub others : (r : ℕ) → (r ≢ to) → stands' r ≡ stands r
   pub met : Meets m (λ o. (o ≡ stands to) ⊎ (o ≡ stands from)) (stands' to)
 
--- the two nodes to which an attribute leads, where both have it
-abbrev pub clash : Option ℕ → Option ℕ → List Pair
-clash (some u) (some v) = record { left = u; right = v } ∷ []
-clash (some u) none = []
-clash none o = []
+-- where an attribute leads already and where it is to lead, if it leads anywhere already
+abbrev pub clash : Option ℕ → ℕ → List Pair
+clash (some u) v = record { left = u; right = v } ∷ []
+clash none v = []
 
--- node `to` has the attribute a if it or `from` had it; where both lead waits to be joined
-pub record TakesOne (edge : ℕ → ℕ → Option ℕ) (pairs : List Pair) (to from a : ℕ) (edge' : ℕ → ℕ → Option ℕ) (pairs' : List Pair) : Type 0 where
+-- the attribute a that leads to v comes to node `to`: it leads there if `to` had no such attribute, else its target and v wait to be joined
+pub record TakesOne (edge : ℕ → ℕ → Option ℕ) (pairs : List Pair) (to a v : ℕ) (edge' : ℕ → ℕ → Option ℕ) (pairs' : List Pair) : Type 0 where
   pub others : (r c : ℕ) → ((r ≡ to) → (c ≡ a) → ⊥) → edge' r c ≡ edge r c
-  pub merged : edge' to a ≡ or_else (edge to a) (edge from a)
-  pub waiting : pairs' ≡ pairs ++ clash (edge to a) (edge from a)
+  pub merged : edge' to a ≡ or_else (edge to a) (some v)
+  pub waiting : pairs' ≡ pairs ++ clash (edge to a) v
 
 -- how many of the nodes represent themselves
 abbrev pub representatives : (ℕ → ℕ) → ℕ → ℕ

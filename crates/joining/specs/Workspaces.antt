@@ -1,5 +1,5 @@
 -- What a workspace says of its rows: which row stands for each, and what stands on it.
-use Rattle.std.specs.Prelude.{◌≡◌, ℕ, ◌<◌, true, false, cond, List, Some, None, vec_items, vec_len, Option as Maybe, ◌≢◌, slice_index, slice_index_or}
+use Rattle.std.specs.Prelude.{◌≡◌, ℕ, ◌<◌, true, false, cond, List, Some, None, vec_items, vec_len, vec_capacity, Option as Maybe, ◌≢◌, slice_index, slice_index_or}
 use Rattle.std.proofs.Math.Option.{Option, some, none, map}
 use mathlib.Core.List.{Memᴰ}
 use Rattle.kinds.specs.Meaning.{Meaning}
@@ -25,51 +25,39 @@ standing None = none
 abbrev pub Waits : List Pair → ℕ → ℕ → Type 0
 Waits pairs u v = Memᴰ (record { left = u; right = v }) pairs
 
--- a workspace has an entry for every row of its table
-pub record Room (w : Workspace) : Type 0 where
-  pub rows : vec_len w.table.rows ≡ 272
-  pub classes : vec_len w.class ≡ 272
-  pub voids : vec_len w.void ≡ 272
-
 -- what stands on a row in use is a value of the kind
 abbrev pub Valued : Meaning → Workspace → Type 0
-Valued m w = (x v : ℕ) → x < w.table.used → state w x ≡ some v → m.value v ≡ true
+Valued m w = (x v : ℕ) → x < vec_len w.table.rows → state w x ≡ some v → m.value v ≡ true
 
 -- only the attributes of nodes have changed
 pub record Edged (t t' : Table) : Type 0 where
-  pub used : t'.used ≡ t.used
-  pub vars : t'.vars ≡ t.vars
+  pub used : vec_len t'.rows ≡ vec_len t.rows
+  pub room : vec_capacity t'.rows ≡ vec_capacity t.rows
   pub roots : t'.roots ≡ t.roots
-  pub rows : vec_len t'.rows ≡ vec_len t.rows
   pub values : (x : ℕ) → (graph t').value x ≡ (graph t).value x
 
 -- on row s stands o, and nothing else has changed
 pub record Put (s : ℕ) (o : Option ℕ) (w w' : Workspace) : Type 0 where
-  pub used : w'.table.used ≡ w.table.used
-  pub vars : w'.table.vars ≡ w.table.vars
+  pub used : vec_len w'.table.rows ≡ vec_len w.table.rows
   pub roots : w'.table.roots ≡ w.table.roots
-  pub rows : vec_len w'.table.rows ≡ vec_len w.table.rows
   pub edges : (x a : ℕ) → (graph w'.table).edge x a ≡ (graph w.table).edge x a
   pub classes : w'.class ≡ w.class
-  pub voids : vec_len w'.void ≡ vec_len w.void
   pub joins : w'.joins ≡ w.joins
   pub others : (x : ℕ) → (x ≢ s) → state w' x ≡ state w x
   pub stands : state w' s ≡ o
 
--- the nodes and variables are as many as they were, and the variables lead where they led
-pub record SameTable (w w' : Workspace) : Type 0 where
-  pub used : w'.table.used ≡ w.table.used
-  pub vars : w'.table.vars ≡ w.table.vars
-  pub roots : w'.table.roots ≡ w.table.roots
-  pub room : Room w'
+-- the nodes are as many as they were, and the variables lead where they led
+pub record SameTable (t t' : Table) : Type 0 where
+  pub used : vec_len t'.rows ≡ vec_len t.rows
+  pub roots : t'.roots ≡ t.roots
 
 -- every attribute and every variable leads to a representative
 pub record Resolved (w w' : Workspace) : Type 0 where
-  pub used : w'.table.used ≡ w.table.used
-  pub vars : w'.table.vars ≡ w.table.vars
+  pub used : vec_len w'.table.rows ≡ vec_len w.table.rows
+  pub vars : vec_len w'.table.roots ≡ vec_len w.table.roots
   pub classes : w'.class ≡ w.class
   pub voids : w'.void ≡ w.void
   pub joins : w'.joins ≡ w.joins
   pub values : (n : ℕ) → (graph w'.table).value n ≡ (graph w.table).value n
-  pub edges : (n a : ℕ) → n < w.table.used → (graph w'.table).edge n a ≡ map (rep w) ((graph w.table).edge n a)
-  pub roots : (x : ℕ) → x < w.table.vars → (graph w'.table).root x ≡ rep w ((graph w.table).root x)
+  pub edges : (n a : ℕ) → n < vec_len w.table.rows → (graph w'.table).edge n a ≡ map (rep w) ((graph w.table).edge n a)
+  pub roots : (x : ℕ) → x < vec_len w.table.roots → (graph w'.table).root x ≡ rep w ((graph w.table).root x)

@@ -1,7 +1,5 @@
 // The memory of a workspace.
-ghost use Rattle.std.specs.Prelude.{IfOk};
-ghost use Rattle.tables.specs.Views.{Sound};
-ghost use Rattle.joining.specs.Workspaces.{Room};
+ghost use Rattle.std.specs.Prelude.{◌≡◌, IfOk, vec_len};
 
 use crate::workspace::Workspace;
 use std::alloc::{AllocError, Global};
@@ -11,7 +9,7 @@ use tables::table::Table;
 impl Workspace {
     // A workspace with all its memory, and neither a node nor a variable.
     pub fn new(heap: Global) -> Result<Workspace, AllocError>
-        ensures { IfOk result (λ w. Room w × Sound w.table) }
+        ensures { IfOk result (λ w. (vec_len w.table.rows ≡ 0) × (vec_len w.table.roots ≡ 0)) }
     {
         let table = Table::new(heap)?;
         let class = vec![in heap; 0; CAPACITY]?;

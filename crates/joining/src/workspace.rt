@@ -1,4 +1,7 @@
 // A table in which rows are being joined.
+ghost use Rattle.std.specs.Prelude.{◌≡◌, vec_len};
+ghost use Rattle.tables.specs.Views.{Sound};
+
 use tables::table::Table;
 
 // Two rows that are to become one.
@@ -13,7 +16,12 @@ pub struct Pair {
 #[derive(Drop)]
 pub struct Workspace {
     pub table: Table,
+    // Beside the rows, since it is lent whole, as a slice, where targets become representatives.
     pub class: Vec<u16>,
+    // Beside the values, since a row on which nothing stands keeps its value: the row is later one of a graph, whose rows all have values.
     pub void: Vec<bool>,
     pub joins: usize,
+    pub ghost sound: { ∥ Sound table ∥₁ },
+    pub ghost classes: { vec_len class ≡ 272 },
+    pub ghost voids: { vec_len void ≡ 272 },
 }

@@ -1,15 +1,17 @@
 -- What links make of an order: paths upward, and sets of types that follow them.
-use Rattle.std.proofs.Common.{◌≡◌, ℕ, zero, suc, ◌+◌, ◌<◌, ◌≤◌, true, ◌⊎◌, List, [], length, get_or, take, set, sym, refl, ap, subst, inl, inr, arith}
+use Rattle.std.proofs.Common.{◌≡◌, ℕ, zero, suc, ◌+◌, ◌^◌, ◌<◌, ◌≤◌, true, ◌⊎◌, List, [], length, get_or, take, set, map, sym, refl, ap, subst, inl, inr, arith}
 use mathlib.Core.List.Memᴰ
 use lib.Bits.{bit_or}
-use Rattle.std.proofs.lemmas.List.{get_or-set_same, get_or-set_other}
-use Rattle.std.proofs.lemmas.Bool.{cases_eq, cases_lt}
+use Rattle.std.specs.List.{range_with_len}
+use Rattle.std.proofs.lemmas.List.{get_or-set_same, get_or-set_other, get_or_past}
+use Rattle.std.proofs.lemmas.List.FromFn.{get_or-map-range_with_len, length-map-range_with_len}
+use Rattle.std.proofs.lemmas.Bool.{both_ways, cases_eq, cases_lt}
 use Rattle.kinds.specs.declared.types.links.Link.{Link}
-use Rattle.kinds.specs.Hierarchy.{Under}
+use Rattle.kinds.specs.Hierarchy.{Under, AllTypes}
 use Rattle.kinds.specs.Masks.{has}
 use Rattle.kinds.specs.Types.{Linked, Up, Upward, AllUpward, AllLinked, link_at}
 use Rattle.kinds.specs.Types.Up.{stay, climb}
-use Rattle.kinds.specs.BitSets.{has_left, has_right, either_has}
+use Rattle.kinds.specs.BitSets.{has_none, has_one, only_one, has_left, has_right, either_has}
 use Rattle.kinds.proofs.Places.{place_of, front_more, front_keeps, front_has}
 
 pub upward_link : {n : ℕ} {links : List Link} → AllUpward n links → {a b : ℕ} → Linked links a b → (a < n) × (b < n) × (b < a)
@@ -127,24 +129,24 @@ module _ (links : List Link) (i s : ℕ) (old new : List ℕ) (h : i < length li
                 (sym (ap (λ (l : Link). l.supertype) q)) (added_same new (link_at links i).supertype (get_or old s 0) c l k)
           ]
 
--- the sets hold what paths lead to, each type itself, and all that comes by a last link from type k or a higher one
-abbrev pub Whole : List Link → ℕ → List ℕ → Type 0
-Whole links k below =
-    ((c t : ℕ) → Under below c t → Up links c t) × ((t : ℕ) → t < 64 → Under below t t)
+-- the sets of n types hold what paths lead to, each type itself, and all that comes by a last link from type k or a higher one
+abbrev pub Whole : ℕ → List Link → ℕ → List ℕ → Type 0
+Whole n links k below =
+    ((c t : ℕ) → Under below c t → Up links c t) × ((t : ℕ) → t < n → Under below t t)
     × ((c x t : ℕ) → k ≤ x → Up links c x → Linked links x t → Under below c t)
 
 -- the set of a type that all links to come from above k is whole
-pub whole_set : (links : List Link) (k : ℕ) (below : List ℕ) → Whole links k below
-    → (c t : ℕ) → t < 64 → ((x : ℕ) → Linked links x t → k ≤ x) → Up links c t → Under below c t
-whole_set links k below w c t h from u = go (up_last u)
+pub whole_set : (n : ℕ) (links : List Link) (k : ℕ) (below : List ℕ) → Whole n links k below
+    → (c t : ℕ) → t < n → ((x : ℕ) → Linked links x t → k ≤ x) → Up links c t → Under below c t
+whole_set n links k below w c t h from u = go (up_last u)
   where
     go : (c ≡ t) ⊎ ((x : ℕ) × Up links c x × Linked links x t) → Under below c t
     go (inl e) = subst (λ (y : ℕ). Under below y t) (sym e) (w.1 t h)
     go (inr p) = w.2 c p.0 t (from p.0 p.2) p.1 p.2
 
-pub whole_more : {n : ℕ} (links : List Link) (old new : List ℕ) → AllUpward n links → (k : ℕ) → k < 64
-    → Whole links (suc k) old → Raised links k old new → Whole links k new
-whole_more links old new up k h w r = (only, λ t l. r.1 t t (w.1 t l), all)
+pub whole_more : {n : ℕ} (links : List Link) (old new : List ℕ) → AllUpward n links → (k : ℕ) → k < n
+    → Whole n links (suc k) old → Raised links k old new → Whole n links k new
+whole_more {n} links old new up k h w r = (only, λ t l. r.1 t t (w.1 t l), all)
   where
     only : (c t : ℕ) → Under new c t → Up links c t
     only c t q = elim (r.0 c t q) [ inl p ↦ w.0 c t p | inr p ↦ up_link (w.0 c k p.1) p.0 ]
@@ -155,5 +157,37 @@ whole_more links old new up k h w r = (only, λ t l. r.1 t t (w.1 t l), all)
           | inl g ↦ r.1 c t (w.2 c x t (omega arith) u m)
           | inr g ↦ let e : x ≡ k = omega arith in
               r.2 c t (subst (λ (y : ℕ). Linked links y t) e m)
-              (whole_set links (suc k) old w c k h (λ y p. let q = upward_link up p in omega arith) (subst (λ (y : ℕ). Up links c y) e u))
+              (whole_set n links (suc k) old w c k h (λ y p. let q = upward_link up p in omega arith) (subst (λ (y : ℕ). Up links c y) e u))
         ]
+
+-- each of n types by itself
+pub single_own : (n t : ℕ) → t < n → Under (map (λ k. 2 ^ k) (range_with_len 0 n)) t t
+single_own n t h =
+    subst (λ (x : ℕ). has x t ≡ true) (sym (get_or-map-range_with_len (λ k. 2 ^ k) 0 n t t 0 h (omega arith))) (has_one t)
+
+pub single_only : (n c t : ℕ) → Under (map (λ k. 2 ^ k) (range_with_len 0 n)) c t → c ≡ t
+single_only n c t u =
+    elim (cases_lt t n) [
+      | inl l ↦ only_one t c (subst (λ (x : ℕ). has x c ≡ true) (get_or-map-range_with_len (λ k. 2 ^ k) 0 n t t 0 l (omega arith)) u)
+      | inr past ↦ absurd (both_ways (has 0 c) (has_none c)
+          (subst (λ (x : ℕ). has x c ≡ true)
+          (get_or_past (map (λ k. 2 ^ k) (range_with_len 0 n)) t 0 (omega (arith, length-map-range_with_len (λ k. 2 ^ k) 0 n))) u))
+    ]
+
+-- before any links they are whole from n on
+pub whole_singles : {n : ℕ} {links : List Link} → AllUpward n links → (below : List ℕ) → below ≡ map (λ k. 2 ^ k) (range_with_len 0 n)
+    → Whole n links n below
+whole_singles {n} {links} up below e = (
+  λ c t u. subst (λ (x : ℕ). Up links c x) (single_only n c t (subst (λ (l : List ℕ). Under l c t) e u)) stay,
+  λ t h. subst (λ (l : List ℕ). Under l t t) (sym e) (single_own n t h),
+  λ c x t h u m. let p = upward_link up m in absurd (omega arith),
+)
+
+-- sets that hold only what paths lead to hold types alone
+pub all_types : {n : ℕ} {links : List Link} → AllUpward n links → (below : List ℕ) → length below ≡ n
+    → ((c t : ℕ) → Under below c t → Up links c t) → AllTypes below
+all_types {n} up below long only c t u =
+    elim (cases_lt t (length below)) [
+      | inl l ↦ let p = up_type up (only c t u) (omega arith) in omega arith
+      | inr past ↦ absurd (both_ways (has 0 c) (has_none c) (subst (λ (x : ℕ). has x c ≡ true) (get_or_past below t 0 past) u))
+    ]

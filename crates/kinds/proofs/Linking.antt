@@ -1,10 +1,11 @@
 -- The set of the types that have a link.
-use Rattle.std.proofs.Common.{◌≡◌, ℕ, zero, suc, ◌+◌, ◌-◌, ◌*◌, ◌%◌, ◌^◌, ◌<◌, ◌≤◌, true, false, ◌⊎◌, List, length, take, sym, ap, subst, inl, inr, arith}
+use Rattle.std.proofs.Common.{◌≡◌, ℕ, zero, suc, ◌+◌, ◌-◌, ◌*◌, ◌%◌, ◌^◌, ◌<◌, ◌≤◌, true, false, ◌⊎◌, List, length, take, ltb, Some, None, MatchOption, Option, sym, ap, subst, inl, inr, arith}
 use lib.Bits.{bit_or, or_lt}
 use Rattle.std.proofs.lemmas.Nat.{one_shl}
-use Rattle.std.proofs.lemmas.Bool.{cases_Bool, both_ways}
+use Rattle.std.proofs.lemmas.Bool.{cases_Bool, both_ways, cases_lt, lt-ltb, le-ltb}
+use Rattle.std.specs.Bool.{then_some}
 use Rattle.kinds.specs.declared.types.links.Link.{Link}
-use Rattle.kinds.specs.Masks.{has}
+use Rattle.kinds.specs.Masks.{has, LowestBit}
 use Rattle.kinds.specs.Types.{Linked, AllLinked, link_at, Orphan, Least}
 use Rattle.kinds.specs.BitSets.{has_one, only_one, has_left, has_right, either_has, has_lacking, lacking_has}
 use Rattle.kinds.proofs.Places.{front_more, front_keeps, front_has}
@@ -64,3 +65,14 @@ module _ (n : ℕ) (links : List Link) (mask : ℕ) (few : n ≤ 64) (small : ma
 
   pub all_linked : ((t : ℕ) → has (2 ^ 64 - 1 - bit_or mask 1) t ≡ true → t < n → ⊥) → AllLinked n links
   all_linked no-lacking t h l = elim (link_or_lacking t h l) [ inl k ↦ k | inr k ↦ absurd (no-lacking t k l) ]
+
+  -- the lowest lacking one, where it is a type
+  pub orphan_answers : (found r : Option ℕ) → LowestBit (2 ^ 64 - 1 - bit_or mask 1) found
+      → MatchOption found (r ≡ None) (λ t. r ≡ then_some (ltb t n) t)
+      → MatchOption r (AllLinked n links) (λ t. Least (Orphan n links) t)
+  orphan_answers None r none kept = rw kept (all_linked (λ t h l. none t h))
+  orphan_answers (Some t) r low kept =
+      elim (cases_lt t n) [
+        | inl l ↦ rw (kept, lt-ltb t n l) (least_orphan t low.1 low.2 l)
+        | inr g ↦ rw (kept, le-ltb t n g) (all_linked (λ u h l. let le = low.2 u h in omega arith))
+      ]

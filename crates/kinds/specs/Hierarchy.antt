@@ -1,11 +1,15 @@
 -- A type hierarchy by its parts: how many types there are, for each type the set of those at or below it, and the set of leaves.
-use Rattle.std.specs.Prelude.{◌≡◌, ℕ, ◌<◌, ◌≤◌, true, false, ◌&&◌, List, nat_lt, slice_index}
+use Rattle.std.specs.Prelude.{◌≡◌, ℕ, ◌<◌, ◌≤◌, true, false, ◌&&◌, List, length, nat_lt, slice_index}
 use Rattle.kinds.specs.Meaning.{Meaning}
 use Rattle.kinds.specs.Masks.{has}
 
 -- c is in the set of type t
 abbrev pub Under : List ℕ → ℕ → ℕ → Type 0
 Under below c t = has (slice_index below t) c ≡ true
+
+-- what is in the set of a type is a type
+abbrev pub AllTypes : List ℕ → Type 0
+AllTypes below = (c t : ℕ) → Under below c t → c < length below
 
 -- what the parts say: the types are the numbers below n, and 0 is the top
 abbrev pub hierarchy : ℕ → List ℕ → ℕ → Meaning

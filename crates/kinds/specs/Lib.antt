@@ -3,6 +3,7 @@ pub mod Hierarchy
 pub mod Masks
 pub mod Meaning
 pub mod Meets
+pub mod Orders
 pub mod Types
 pub mod ValueSets
 pub mod LawfulSets

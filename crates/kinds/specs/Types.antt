@@ -7,6 +7,7 @@ use Rattle.kinds.specs.declared.types.misfit.Misfit.{Misfit}
 use Rattle.kinds.specs.declared.types.misfit.Misfit.TheVariants.{WrongCount, WrongLink, Unlinked, NoGreatest, WrongMark}
 use Rattle.kinds.specs.Hierarchy.{hierarchy}
 use Rattle.kinds.specs.Masks.{has}
+use Rattle.kinds.specs.Orders.{size, sets}
 use Rattle.kinds.specs.Meaning.{Meaning}
 
 -- the list has a link from type a up to type b
@@ -97,7 +98,7 @@ pub record Described (n : ℕ) (links : List Link) (marks : ℕ) (m : Meaning) :
 
 -- what a hierarchy means
 abbrev pub meaning_of : Types → Meaning
-meaning_of k = hierarchy k.count k.below k.leaves
+meaning_of k = hierarchy (size k.order) (sets k.order) k.leaves
 
 -- filling is accepted, and the hierarchy is then the one described, or refused, and the hierarchy is then as it was
 abbrev pub Filled : ℕ → List Link → ℕ → Types → Result (Unit {0}) Misfit → Types → Type 0

@@ -15,7 +15,7 @@ impl Kind for Atoms {
     ghost lawful = { Prim.search rules };
 
     fn is_value(&self, v: u64) -> bool {
-        v <= u16::MAX as u64
+        v <= u64::from(u16::MAX)
     }
 
     fn top(&self) -> u64 {
@@ -29,13 +29,11 @@ impl Kind for Atoms {
     // Two atoms have one at or below both where they are equal or one of them is the top.
     fn meet(&self, a: u64, b: u64) -> Option<u64> {
         if !self.is_value(a) || !self.is_value(b) {
-            None
-        } else if a == b || b == TOP {
-            Some(a)
-        } else if a == TOP {
-            Some(b)
-        } else {
-            None
+            return None;
+        }
+        match (a, b) {
+            (TOP, v) | (v, TOP) => Some(v),
+            _ => (a == b).then_some(a),
         }
     }
 }

@@ -4,6 +4,7 @@
 pub mod atoms;
 pub mod examples;
 pub mod kind;
+pub mod masks;
 pub mod meet;
 pub mod types;
 pub mod value_sets;

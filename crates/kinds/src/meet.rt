@@ -11,10 +11,7 @@ pub fn meet_all<K: Kind>(kind: &K, values: &[u64]) -> Option<u64>
 {
     let mut greatest = kind.top();
     for value in values {
-        match kind.meet(greatest, *value) {
-            Some(meet) => greatest = meet,
-            None => return None,
-        }
+        greatest = kind.meet(greatest, *value)?;
     }
     Some(greatest)
 }

@@ -1,4 +1,5 @@
 // Type hierarchies of at most 64 types.
+ghost use Rattle.arrayvec.specs.ArrayVec.{array_vec_len};
 ghost use Rattle.kinds.specs.Hierarchy.{Sound};
 
 mod answers;
@@ -6,23 +7,23 @@ pub mod crossing;
 mod fill;
 mod links;
 mod marks;
-mod masks;
 mod meets;
 pub mod misfit;
 mod order;
 #[cfg(test)]
 mod tests;
+mod upward;
 
+pub use crate::masks::has_bit;
 pub use links::Link;
-pub use masks::has_bit;
 pub use misfit::Misfit;
+use order::Order;
 
-// A hierarchy of types, numbered from 0, the top. Bit c of `below[t]` says that type c is at or below type t, and bit t of `leaves` that t
-// is a leaf. A supertype has a lower number than its subtypes, so that the greatest of several common types is the one with the lowest number.
+// A hierarchy of types, numbered from 0, the top. Bit t of `leaves` says that t is a leaf. A supertype has a lower number than its subtypes,
+// so that the greatest of several common types is the one with the lowest number.
 #[derive(Drop)]
 pub struct Types {
-    count: u16,
-    below: [u64; 64],
+    order: Order,
     leaves: u64,
-    ghost sound: { ∥ Sound count below leaves ∥₁ },
+    ghost sound: { ∥ Sound (array_vec_len order.below) order.below.items leaves ∥₁ },
 }

@@ -31,7 +31,7 @@ impl Kind for ValueSets {
 
     fn meet(&self, a: u64, b: u64) -> Option<u64> {
         let common = a & b;
-        if common == 0 { None } else { Some(common) }
+        (common != 0).then_some(common)
     }
 }
 

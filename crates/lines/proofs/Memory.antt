@@ -14,6 +14,7 @@ use Rattle.features.proofs.Bytes.{attributes_bound, count_bound, listing_length}
 use Rattle.answers.specs.Answers as answers
 use Rattle.answers.specs.Answers.{first_refusal, above_31, term_fault, pair_fault, terms_fault, value_fault, full_fault, fault, Right}
 use Rattle.answers.specs.Runs.{Has}
+use Rattle.answers.specs.declared.refusal.Side.{Side}
 use Rattle.answers.specs.declared.refusal.Refusal.{Refusal}
 use Rattle.answers.specs.declared.refusal.Refusal.TheVariants.{Undeclared, LongTerm, NoAttribute, NoSuchValue, ShortTrail, ApartsFull}
 use Rattle.answers.proofs.Counting.{equally_many_nodes}
@@ -33,12 +34,12 @@ cond_roomy : (b : Bool) (x y : Option Refusal) → Roomy x → Roomy y → Roomy
 cond_roomy true x y p q = p
 cond_roomy false x y p q = q
 
-above_roomy : (side at : ℕ) (path : List ℕ) → Roomy (above_31 side at path)
+above_roomy : (side : Side) (at : ℕ) (path : List ℕ) → Roomy (above_31 side at path)
 above_roomy side at [] = tt
 above_roomy side at (a ∷ rest) = cond_roomy (ltb 31 a) (some (NoAttribute side at)) (above_31 side (suc at) rest) tt (above_roomy side (suc at) rest)
 
 module _ (vars : ℕ) where
-  term_roomy : (side : ℕ) (t : terms.Term) → Roomy (term_fault vars side t)
+  term_roomy : (side : Side) (t : terms.Term) → Roomy (term_fault vars side t)
   term_roomy side t =
       let long : Option Refusal = cond (leb (length t.path) 8) none (some (LongTerm side)) in
       first_roomy (cond (ltb t.var vars) none (some (Undeclared side))) (first_refusal long (above_31 side 0 t.path))
@@ -46,11 +47,11 @@ module _ (vars : ℕ) where
       (first_roomy long (above_31 side 0 t.path) (cond_roomy (leb (length t.path) 8) none (some (LongTerm side)) tt tt) (above_roomy side 0 t.path))
 
   pair_roomy : (p q : terms.Term) → Roomy (pair_fault vars p q)
-  pair_roomy p q = first_roomy (term_fault vars 0 p) (term_fault vars 1 q) (term_roomy 0 p) (term_roomy 1 q)
+  pair_roomy p q = first_roomy (term_fault vars Side.Left p) (term_fault vars Side.Right q) (term_roomy Side.Left p) (term_roomy Side.Right q)
 
   terms_roomy : (s : terms.Statement) → Roomy (terms_fault vars s)
   terms_roomy (terms.equals p q) = pair_roomy p q
-  terms_roomy (terms.is p v) = term_roomy 0 p
+  terms_roomy (terms.is p v) = term_roomy Side.Left p
   terms_roomy (terms.apart p q) = pair_roomy p q
 
   module _ (m : Meaning) (said : List terms.Statement) where
@@ -96,7 +97,7 @@ module _ (vars : ℕ) where
   same_roomy (answers.not_one e j) = tt
 
   value_roomy_of : {m : Meaning} {said : List terms.Statement} {p : terms.Term} {r : Result (rust.Option ℕ) Refusal} → answers.Value m vars said p r → Roomy (error r)
-  value_roomy_of {p = p} (answers.faulty e) = subst Roomy e (term_roomy 0 p)
+  value_roomy_of {p = p} (answers.faulty e) = subst Roomy e (term_roomy Side.Left p)
   value_roomy_of (answers.valued v e j w) = tt
   value_roomy_of (answers.nothing e j) = tt
 
@@ -111,7 +112,7 @@ module _ (s : Responder) (vars : ℕ) (said : List terms.Statement) (has : Has g
       let g = listed.graph in
       let own = has.holds in
       let few = s.session.nodes in
-      let room = (sound_known s.session.sound).vars in
+      let room = (sound_known s.session.sound).roots in
       let as_many = equally_many_nodes atoms g (graph s.session) (aparts_of said) (kept s.session) vars said listed.holds own in
       let short = length_written g (omega (arith, as_many, few)) (omega (arith, listed.holds.all, own.all, room)) in
       omega (arith, short, ap length listed.bytes_are)

@@ -1,15 +1,16 @@
 // The line that is being read.
-ghost use Rattle.std.specs.Prelude.{◌≡◌, ◌≤◌, [], ◌∷◌, ◌++◌, take};
+ghost use Rattle.std.specs.Prelude.{◌≡◌, [], ◌∷◌, ◌++◌, take};
 ghost use Rattle.lines.specs.Gathering.{held};
+
+use arrayvec::ArrayVec;
 
 // One byte more than the longest line has: as many tell a line that is too long.
 const CAPACITY: usize = 121;
 
 // The first bytes of a line; those after them are let go.
-#[derive(Clone, Copy)]
+#[derive(Drop)]
 pub struct LineBuffer {
-    bytes: [u8; CAPACITY],
-    count: usize,
+    bytes: ArrayVec<u8, CAPACITY>,
 }
 
 impl LineBuffer {
@@ -17,8 +18,7 @@ impl LineBuffer {
         ensures { held result ≡ [] }
     {
         LineBuffer {
-            bytes: [0; CAPACITY],
-            count: 0,
+            bytes: ArrayVec::new(),
         }
     }
 
@@ -26,9 +26,8 @@ impl LineBuffer {
     pub fn add(&mut self, byte: u8)
         ensures { held self.new ≡ take 121 (held self.old ++ (byte ∷ [])) }
     {
-        if self.count < CAPACITY {
-            self.bytes[self.count] = byte;
-            self.count += 1;
+        if !self.bytes.is_full() {
+            self.bytes.push(byte);
         }
     }
 
@@ -36,12 +35,12 @@ impl LineBuffer {
     pub fn clear(&mut self)
         ensures { held self.new ≡ [] }
     {
-        self.count = 0;
+        self.bytes.clear();
     }
 
     pub fn line(&self) -> &[u8]
         ensures { result.now ≡ held self.now }
     {
-        &self.bytes[..self.count.min(CAPACITY)]
+        self.bytes.as_slice()
     }
 }

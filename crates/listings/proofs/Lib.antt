@@ -1,5 +1,5 @@
 pub mod Placing
+pub mod Numbers
 pub mod Entries
 pub mod Lengths
-pub mod Fronts
 pub mod Links

@@ -1,10 +1,5 @@
--- Bytes put into a buffer.
-use Rattle.std.specs.Prelude.{◌≡◌, ℕ, ◌+◌, ◌<◌, ◌≤◌, List, ◌++◌, length, take, drop}
-
--- the bytes stand from one place up to another, and all else is as it was
-pub record Placed (from : ℕ) (bytes before after : List ℕ) (to : ℕ) : Type 0 where
-  pub end : to ≡ from + length bytes
-  pub there : after ≡ take from before ++ (bytes ++ drop (from + length bytes) before)
+-- Bytes at the front of a buffer.
+use Rattle.std.specs.Prelude.{◌≡◌, ℕ, ◌<◌, ◌≤◌, List, ◌++◌, length, drop}
 
 -- all the bytes stand at the front of the buffer, and what follows them is as it was
 pub record Fitted (bytes before after : List ℕ) (n : ℕ) : Type 0 where

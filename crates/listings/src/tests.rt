@@ -1,5 +1,5 @@
 // Listings written by hand.
-ghost use Rattle.std.specs.Prelude.{◌<◌};
+ghost use Rattle.std.specs.Prelude.{◌<◌, vec_len};
 ghost use Rattle.tables.specs.Views.{Sound};
 
 use crate::writer::{Short, write};
@@ -9,9 +9,9 @@ use tables::table::Table;
 // Lets an attribute lead from one node to another.
 fn link(table: &mut Table, from: u16, attribute: u16, target: u16)
     requires sound { Sound table.old }
-    requires from { from < table.old.used }
+    requires from { from < vec_len table.old.rows }
     requires attribute { attribute < 32 }
-    requires target { target < table.old.used }
+    requires target { target < vec_len table.old.rows }
     ensures { Sound table.new }
 {
     table.rows[from as usize].lead(attribute, target);

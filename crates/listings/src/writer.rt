@@ -1,11 +1,13 @@
 // The listing of a table's graph, with the nodes as the table numbers them.
-ghost use Rattle.std.specs.Prelude.{◌≡◌, ◌+◌, ◌≤◌, length, MatchResult};
+ghost use Rattle.std.specs.Prelude.{◌≡◌, ◌+◌, ◌≤◌, [], length, MatchResult};
+ghost use Rattle.buffers.specs.Writing.{so_far, room, Wrote};
 ghost use Rattle.features.specs.Listing.{written};
 ghost use Rattle.tables.specs.Views.{graph, Sound};
-ghost use Rattle.listings.specs.Buffers.{Placed, Fitted, TooShort};
+ghost use Rattle.listings.specs.Buffers.{Fitted, TooShort};
 ghost use Rattle.listings.specs.Parts.{first_nodes, first_variables};
 
-use crate::parts::{put_node, put_u16, put_u32};
+use crate::parts::{put_node, put_number};
+use buffers::Writer;
 use tables::table::Table;
 
 // The buffer is shorter than the listing, which has the needed number of bytes.
@@ -14,54 +16,61 @@ pub struct Short {
     pub needed: usize,
 }
 
+// How many bytes the nodes have.
+fn size_of_nodes(table: &Table) -> usize
+    requires { Sound table.now }
+    ensures { result ≡ length (first_nodes (graph table.now) (graph table.now).nodes) }
+{
+    table
+        .rows
+        .iter()
+        .map(|node| 9 + 3 * node.degree() as usize)
+        .sum()
+}
+
 // How many bytes the listing has.
 pub fn size(table: &Table) -> usize
     requires { Sound table.now }
     ensures { result ≡ length (written (graph table.now)) }
 {
-    let mut total = 2 * table.vars + 8;
-    for node in &table.rows[0..table.used] {
-        total += 9 + 3 * node.degree() as usize;
-    }
-    total
+    size_of_nodes(table) + 2 * table.roots.len() + 8
 }
 
 // The nodes, by number.
-fn put_nodes(out: &mut [u8], table: &Table) -> usize
+fn put_nodes(writer: &mut Writer, table: &Table)
     requires sound { Sound table.now }
-    requires room { length (first_nodes (graph table.now) table.now.used) ≤ length out.old }
-    ensures { Placed 0 (first_nodes (graph table.now) table.now.used) out.old out.new result }
+    requires fits { length (first_nodes (graph table.now) (graph table.now).nodes) ≤ room writer.old }
+    ensures { Wrote (first_nodes (graph table.now) (graph table.now).nodes) writer.old writer.new }
 {
-    let mut at = 0;
-    for node in &table.rows[0..table.used] {
-        at = put_node(out, at, node);
+    for node in &table.rows {
+        put_node(writer, node);
     }
-    at
 }
 
 // The nodes of the variables, by variable.
-fn put_variables(out: &mut [u8], mut at: usize, table: &Table) -> usize
+fn put_variables(writer: &mut Writer, table: &Table)
     requires sound { Sound table.now }
-    requires room { at + length (first_variables (graph table.now) table.now.vars) ≤ length out.old }
-    ensures { Placed at (first_variables (graph table.now) table.now.vars) out.old out.new result }
+    requires fits { length (first_variables (graph table.now) (graph table.now).vars) ≤ room writer.old }
+    ensures { Wrote (first_variables (graph table.now) (graph table.now).vars) writer.old writer.new }
 {
-    for root in &table.roots[0..table.vars] {
-        at = put_u16(out, at, *root);
+    for root in &table.roots {
+        put_number::<2>(writer, u64::from(*root));
     }
-    at
 }
 
-// The whole listing, into a buffer that has room for it.
-fn put_listing(out: &mut [u8], table: &Table) -> usize
+// The whole listing, with nothing before it.
+fn put_listing(writer: &mut Writer, table: &Table)
     requires sound { Sound table.now }
-    requires room { length (written (graph table.now)) ≤ length out.old }
-    ensures { Placed 0 (written (graph table.now)) out.old out.new result }
+    requires first { so_far writer.old ≡ [] }
+    requires fits { length (written (graph table.now)) ≤ room writer.old }
+    ensures { Wrote (written (graph table.now)) writer.old writer.new }
 {
-    let variables = put_nodes(out, table);
-    let counts = put_variables(out, variables, table);
-    let at = put_u16(out, counts, table.used as u16);
-    let at = put_u16(out, at, table.vars as u16);
-    put_u32(out, at, variables as u32)
+    put_nodes(writer, table);
+    let variables = writer.count();
+    put_variables(writer, table);
+    put_number::<2>(writer, table.rows.len() as u64);
+    put_number::<2>(writer, table.roots.len() as u64);
+    put_number::<4>(writer, variables as u64);
 }
 
 // Writes the listing at the front of the buffer, and answers its length. A buffer that is too short stays as it is.
@@ -73,5 +82,6 @@ pub fn write(table: &Table, out: &mut [u8]) -> Result<usize, Short>
     if out.len() < needed {
         return Err(Short { needed });
     }
-    Ok(put_listing(out, table))
+    put_listing(&mut Writer::over(out), table);
+    Ok(needed)
 }

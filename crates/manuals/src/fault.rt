@@ -1,73 +1,75 @@
 // What can be wrong with a manual's text.
+ghost use Rattle.std.specs.Prelude.{◌≡◌};
+ghost use Rattle.manuals.specs.declared.fault.Mistake.TheVariants.{Memory};
+
 use std::alloc::{AllocError, AllocFailed};
 use std::fmt;
+use thiserror::Error;
 
-// Each case but the first begins with the line at fault, counted from 1.
+// The line at which the reading ended, counted from 1, and why it did.
 #[derive(Debug, Drop)]
-pub enum Fault {
+pub struct Fault {
+    pub line: usize,
+    pub mistake: Mistake,
+}
+
+#[derive(Debug, Drop, Error)]
+pub enum Mistake {
+    #[error("There is not enough memory.")]
     Memory,
     // the name stands there already
-    Repeated(usize, String),
+    #[error("`{0}` is named twice.")]
+    Repeated(String),
     // one name more than there can be
-    TooMany(usize, String, u16),
+    #[error("`{0}` is one name too many. There can be {1}.")]
+    TooMany(String, u16),
     // a sentence before any language
-    NoLanguage(usize),
+    #[error("a sentence needs a line `language` above it.")]
+    NoLanguage,
     // words or an equation before any sentence
-    NoSentence(usize),
+    #[error("words and equations need a line `sentence` above them.")]
+    NoSentence,
     // neither `=` nor `is`
-    NoEquation(usize),
+    #[error("an equation has `=` between two terms, or `is` between a term and a value.")]
+    NoEquation,
     // no term where there should be one
-    NoTerm(usize),
-    UnknownWord(usize, String),
-    UnknownAttribute(usize, String),
-    UnknownValue(usize, String),
+    #[error("a term is missing.")]
+    NoTerm,
+    #[error("`{0}` is none of the sentence's words.")]
+    UnknownWord(String),
+    #[error("`{0}` is no attribute.")]
+    UnknownAttribute(String),
+    #[error("`{0}` is no value.")]
+    UnknownValue(String),
     // a term has more than 7 attributes
-    LongTerm(usize),
+    #[error("a term has at most 7 attributes.")]
+    LongTerm,
 }
 
-impl From<AllocError> for Fault {
-    fn from(_e: AllocError) -> Fault {
-        Fault::Memory
+// The derived From has no clause, and `Names::add` says which mistake it was.
+impl From<AllocError> for Mistake {
+    ghost from_gives = { λ _ e. e ≡ Memory };
+
+    fn from(_e: AllocError) -> Mistake {
+        Mistake::Memory
     }
 }
 
-impl<T: Drop> From<AllocFailed<T>> for Fault {
-    fn from(_e: AllocFailed<T>) -> Fault {
-        Fault::Memory
+impl<T: Drop> From<AllocFailed<T>> for Mistake {
+    ghost from_gives = { λ _ e. e ≡ Memory };
+
+    fn from(_e: AllocFailed<T>) -> Mistake {
+        Mistake::Memory
     }
 }
 
+// No line where memory is out.
 impl fmt::Display for Fault {
     fn fmt<W: fmt::Write>(&self, f: &mut fmt::Formatter<W>) -> fmt::Result {
-        match self {
-            Fault::Memory => write!(f, "There is not enough memory."),
-            Fault::Repeated(line, name) => { write!(f, "Line {line}: `{name}` is named twice.") }
-            Fault::TooMany(line, name, most) => write!(
-                f,
-                "Line {line}: `{name}` is one name too many. There can be {most}."
-            ),
-            Fault::NoLanguage(line) => write!(
-                f,
-                "Line {line}: a sentence needs a line `language` above it."
-            ),
-            Fault::NoSentence(line) => write!(
-                f,
-                "Line {line}: words and equations need a line `sentence` above them."
-            ),
-            Fault::NoEquation(line) => write!(
-                f,
-                "Line {line}: an equation has `=` between two terms, or `is` between a term and a value."
-            ),
-            Fault::NoTerm(line) => write!(f, "Line {line}: a term is missing."),
-            Fault::UnknownWord(line, name) => write!(
-                f,
-                "Line {line}: `{name}` is none of the sentence's words."
-            ),
-            Fault::UnknownAttribute(line, name) => {
-                write!(f, "Line {line}: `{name}` is no attribute.")
-            }
-            Fault::UnknownValue(line, name) => write!(f, "Line {line}: `{name}` is no value."),
-            Fault::LongTerm(line) => write!(f, "Line {line}: a term has at most 7 attributes."),
+        let line = self.line;
+        match &self.mistake {
+            Mistake::Memory => self.mistake.fmt(f),
+            mistake => write!(f, "Line {line}: {mistake}"),
         }
     }
 }

@@ -1,8 +1,10 @@
 // Reading a manual, line by line.
-use crate::fault::Fault;
+use crate::context::Context;
+use crate::fault::{Fault, Mistake};
 use crate::manual::{Manual, Sentence};
 use crate::names::Names;
 use std::alloc::Global;
+use texts::line::Lines;
 
 // As many as a session can tell apart.
 const ATTRIBUTES: u16 = 32;
@@ -14,78 +16,87 @@ const WORDS: u16 = 64;
 impl Manual {
     // The manual of a text, or its first fault.
     pub fn read(heap: Global, text: &str) -> Result<Manual, Fault> {
-        let mut manual = Manual {
+        let mut reader = Reader::new(heap);
+        for line in Lines::of(text) {
+            reader.read(line.text).map_err(|mistake| Fault {
+                line: line.number,
+                mistake,
+            })?;
+        }
+        Ok(reader.manual)
+    }
+}
+
+// A manual of which the lines so far are read.
+#[derive(Drop)]
+struct Reader {
+    heap: Global,
+    manual: Manual,
+    // that of the sentences to come
+    language: Option<String>,
+}
+
+impl Reader {
+    fn new(heap: Global) -> Reader {
+        let manual = Manual {
             attributes: Names::new(heap, ATTRIBUTES),
             values: Names::new(heap, VALUES),
             sentences: Vec::new(heap),
         };
-        let mut language = String::new(heap);
-        let mut line: usize = 0;
-        for words in text.lines() {
-            line = line.saturating_add(1);
-            let words = without_comment(words);
-            match words.strip_prefix("language ") {
-                Some(name) => language = String::from_str(heap, name.trim())?,
-                None => manual.read_line(heap, line, &language, words)?,
-            }
+        Reader {
+            heap,
+            manual,
+            language: None,
         }
-        Ok(manual)
     }
 
-    // A line that names no language, which is that of the lines above it.
-    fn read_line(
-        &mut self,
-        heap: Global,
-        line: usize,
-        language: &String,
-        text: &str,
-    ) -> Result<(), Fault> {
+    // One line more, without its comment.
+    fn read(&mut self, text: &str) -> Result<(), Mistake> {
         if text.is_empty() {
             return Ok(());
         }
-        if let Some(names) = text.strip_prefix("attributes ") {
-            return self.attributes.add_all(heap, line, names);
-        }
-        if let Some(names) = text.strip_prefix("values ") {
-            return self.values.add_all(heap, line, names);
-        }
-        if let Some(words) = text.strip_prefix("sentence ") {
-            if language.is_empty() {
-                return Err(Fault::NoLanguage(line));
+        match text.split_once(' ') {
+            Some(("language", name)) => {
+                self.language = Some(String::from_str(self.heap, name.trim())?);
+                Ok(())
             }
-            let sentence = Sentence {
-                language: language.clone()?,
-                text: String::from_str(heap, words.trim())?,
-                words: Names::new(heap, WORDS),
-                equations: Vec::new(heap),
-            };
-            self.sentences.push(sentence)?;
-            return Ok(());
+            Some(("attributes", names)) => self.manual.attributes.add_all(self.heap, names),
+            Some(("values", names)) => self.manual.values.add_all(self.heap, names),
+            Some(("sentence", words)) => self.begin(words.trim()),
+            Some(("words", names)) => self.name_words(names),
+            _ => self.state(text),
         }
-        self.read_part(heap, line, text)
     }
 
-    // A line that belongs to the last sentence.
-    fn read_part(&mut self, heap: Global, line: usize, text: &str) -> Result<(), Fault> {
-        let Some(mut sentence) = self.sentences.pop() else {
-            return Err(Fault::NoSentence(line));
+    // A sentence of which nothing is said.
+    fn begin(&mut self, text: &str) -> Result<(), Mistake> {
+        let language = self.language.as_ref().ok_or(Mistake::NoLanguage)?;
+        let sentence = Sentence {
+            language: language.clone()?,
+            text: String::from_str(self.heap, text)?,
+            words: Names::new(self.heap, WORDS),
+            equations: Vec::new(self.heap),
         };
-        match text.strip_prefix("words ") {
-            Some(names) => sentence.words.add_all(heap, line, names)?,
-            None => {
-                let equation = self.read_equation(heap, line, &sentence.words, text)?;
-                sentence.equations.push(equation)?;
-            }
-        }
-        self.sentences.push(sentence)?;
+        self.manual.sentences.push(sentence)?;
         Ok(())
     }
-}
 
-// What stands before a comment.
-fn without_comment(text: &str) -> &str {
-    match text.split_once('#') {
-        Some((before, _)) => before.trim(),
-        None => text.trim(),
+    // Words of the last sentence.
+    fn name_words(&mut self, names: &str) -> Result<(), Mistake> {
+        let sentence = self.manual.sentences.last_mut().ok_or(Mistake::NoSentence)?;
+        sentence.words.add_all(self.heap, names)
+    }
+
+    // An equation of the last sentence.
+    fn state(&mut self, text: &str) -> Result<(), Mistake> {
+        let sentence = self.manual.sentences.last_mut().ok_or(Mistake::NoSentence)?;
+        let context = Context {
+            attributes: &self.manual.attributes,
+            values: &self.manual.values,
+            sentence: &*sentence,
+        };
+        let equation = context.read_equation(self.heap, text)?;
+        sentence.equations.push(equation)?;
+        Ok(())
     }
 }

@@ -1,58 +1,57 @@
 // Terms and equations in names.
+ghost use Rattle.std.specs.Prelude.{◌≡◌};
+
+use crate::context::Context;
 use crate::equation::Equation;
-use crate::manual::{Manual, Sentence};
 use crate::place::Place;
 use std::fmt;
 
-// A term of a sentence.
+// Something that a sentence says, in the notation.
 #[derive(Drop)]
-pub struct WordedPlace<'a> {
-    pub manual: &'a Manual,
-    pub sentence: &'a Sentence,
-    pub place: &'a Place,
+pub struct Worded<'a, T> {
+    pub context: Context<'a>,
+    pub said: &'a T,
 }
 
-impl fmt::Display for WordedPlace<'_> {
+impl<'a> Context<'a> {
+    // Something that the sentence says, beside the names to print it by.
+    pub fn worded<T>(self, said: &'a T) -> Worded<'a, T>
+        ensures context { result.context ≡ self.entry }
+        ensures said { result.said.now ≡ said.now }
+    {
+        Worded {
+            context: self,
+            said,
+        }
+    }
+}
+
+impl fmt::Display for Worded<'_, Place> {
     fn fmt<W: fmt::Write>(&self, f: &mut fmt::Formatter<W>) -> fmt::Result {
-        let word = self.sentence.words.name(self.place.word);
+        let word = self.context.sentence.words.name(self.said.word);
         write!(f, "{word}")?;
-        for attribute in self.place.path.iter() {
-            let name = self.manual.attributes.name(*attribute);
+        for attribute in self.said.path.iter() {
+            let name = self.context.attributes.name(*attribute);
             write!(f, " {name}")?;
         }
         Ok(())
     }
 }
 
-// An equation of a sentence, in the notation.
-#[derive(Drop)]
-pub struct WordedEquation<'a> {
-    pub manual: &'a Manual,
-    pub sentence: &'a Sentence,
-    pub equation: &'a Equation,
-}
-
-impl fmt::Display for WordedEquation<'_> {
+impl fmt::Display for Worded<'_, Equation> {
     fn fmt<W: fmt::Write>(&self, f: &mut fmt::Formatter<W>) -> fmt::Result {
-        match self.equation {
+        let context = self.context;
+        match self.said {
             Equation::Equal(left, right) => {
-                let left = worded(self, left);
-                let right = worded(self, right);
+                let left = context.worded(left);
+                let right = context.worded(right);
                 write!(f, "{left} = {right}")
             }
             Equation::Valued(place, value) => {
-                let place = worded(self, place);
-                let value = self.manual.values.name(*value);
+                let place = context.worded(place);
+                let value = context.values.name(*value);
                 write!(f, "{place} is {value}")
             }
         }
-    }
-}
-
-fn worded<'a>(equation: &WordedEquation<'a>, place: &'a Place) -> WordedPlace<'a> {
-    WordedPlace {
-        manual: equation.manual,
-        sentence: equation.sentence,
-        place,
     }
 }

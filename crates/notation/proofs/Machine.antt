@@ -1,11 +1,12 @@
 -- A machine for the notation: what each reading becomes by one byte more, and what it says at the end of a line.
 use Rattle.std.proofs.Common.{◌≡◌, ℕ, ◌+◌, ◌-◌, ◌*◌, ◌^◌, ◌<◌, ◌≤◌, false, cond, ◌&&◌, eqb, ltb, leb, List, [], ◌∷◌, Some, None, Option, ap, ◌∙◌, inl, inr, arith}
-use Rattle.std.specs.Option.{option_map}
+use Rattle.std.specs.Option.{option_map, option_and_then}
 use Rattle.std.proofs.lemmas.Bool.{cond-true, cond-false, and_from, and_left, and_right, le-leb, lt-leb, lt-ltb, le-ltb, ne_eqb, cases_lt}
 use Rattle.features.specs.Terms.{Term}
 use Rattle.notation.specs.Notation.{Command, declare, is, list}
 use Rattle.notation.specs.Classes.{Classed}
-use Rattle.notation.specs.Readings.{Operand, alone, before_value, left, right, Reading, start, named, within_term, within_value, closed, ended}
+use Rattle.notation.specs.Readings.{Reading, start, named, within_term, within_value, closed, ended}
+use Rattle.notation.specs.declared.state.Place.{Place}
 use Rattle.notation.specs.declared.class.Relation.{Relation}
 use Rattle.notation.specs.declared.class.Call.{Call}
 use Rattle.notation.specs.declared.class.Class.{Class}
@@ -71,23 +72,21 @@ grown_none limit n d h =
 abbrev pub opened : Call → Option Reading
 opened Call.Declare = None
 opened Call.List = None
-opened Call.Value = Some (within_term alone None None)
-opened Call.Is = Some (within_term before_value None None)
-opened (Call.Relate r) = Some (within_term (left r) None None)
+opened Call.Value = Some (within_term Place.Value None None)
+opened Call.Is = Some (within_term Place.Is None None)
+opened (Call.Relate r) = Some (within_term (Place.Left r) None None)
 
-abbrev pub next : Operand → Term → Option Reading
-next alone t = None
-next before_value t = Some (within_value t None)
-next (left r) t = Some (within_term (right r t) None None)
-next (right r p) t = None
+abbrev pub next : Place → Term → Option Reading
+next Place.Value t = None
+next Place.Is t = Some (within_value t None)
+next (Place.Left r) t = Some (within_term (Place.Right r t) None None)
+next (Place.Right r p) t = None
 
-abbrev pub pointed : Operand → Option Term → Option ℕ → Option Reading
-pointed o stem None = None
-pointed o stem (Some n) = Some (within_term o (Some (closed stem n)) None)
+abbrev pub pointed : Place → Option Term → Option ℕ → Option Reading
+pointed o stem n = option_and_then (λ k. Some (within_term o (Some (closed stem k)) None)) n
 
-abbrev pub spaced : Operand → Option Term → Option ℕ → Option Reading
-spaced o stem None = None
-spaced o stem (Some n) = next o (closed stem n)
+abbrev pub spaced : Place → Option Term → Option ℕ → Option Reading
+spaced o stem n = option_and_then (λ k. next o (closed stem k)) n
 
 abbrev pub step : Reading → Class → Option Reading
 step start (Class.Letter c) = Some (named c)
@@ -123,7 +122,5 @@ command (named Call.List) = Some list
 command (named Call.Value) = None
 command (named Call.Is) = None
 command (named (Call.Relate r)) = None
-command (within_term o stem None) = None
-command (within_term o stem (Some n)) = ended o (closed stem n)
-command (within_value p None) = None
-command (within_value p (Some v)) = Some (is p v)
+command (within_term o stem n) = option_and_then (λ k. ended o (closed stem k)) n
+command (within_value p n) = option_map (is p) n

@@ -8,7 +8,8 @@ use Rattle.std.proofs.lemmas.Bool.{cond_both, and_parts, ltb-true}
 use Rattle.features.specs.Terms.{Term}
 use Rattle.notation.specs.Notation.{Command, space, point, written_path, written_term, Sized, Writes, Good}
 use Rattle.notation.specs.Classes.{Classed, relation_letter}
-use Rattle.notation.specs.Readings.{Operand, alone, before_value, left, right, Reading, start, named, within_term, within_value, closed, text, operand_text, stem_text, number_text, Below, SizedStem, SizedOperand, Ranged, Follows, related}
+use Rattle.notation.specs.Readings.{Reading, start, named, within_term, within_value, closed, text, place_text, stem_text, number_text, Below, SizedStem, SizedPlace, Ranged, Follows, related}
+use Rattle.notation.specs.declared.state.Place.{Place}
 use Rattle.notation.specs.declared.class.Relation.{Relation}
 use Rattle.notation.specs.declared.class.Call.{Call}
 use Rattle.notation.specs.declared.class.Class.{Class}
@@ -49,10 +50,10 @@ cases_mapped : {A B : Type 0} (f : A → B) (o : Option A) (P : Type 0) (Q : A �
 cases_mapped f None P Q R h g = h
 cases_mapped f (Some x) P Q R h g = g x h
 
-term_push : (o : Operand) (stem : Option Term) (n : Option ℕ) (k b : ℕ) → decimal k ≡ number_text n ++ (b ∷ []) → text (within_term o stem (Some k)) ≡ text (within_term o stem n) ++ (b ∷ [])
+term_push : (o : Place) (stem : Option Term) (n : Option ℕ) (k b : ℕ) → decimal k ≡ number_text n ++ (b ∷ []) → text (within_term o stem (Some k)) ≡ text (within_term o stem n) ++ (b ∷ [])
 term_push o stem n k b e =
-    ap (λ x. operand_text o ++ (stem_text stem ++ x)) e ∙ ap (λ x. operand_text o ++ x) (sym (append_assoc (stem_text stem) (number_text n) (b ∷ [])))
-    ∙ sym (append_assoc (operand_text o) (stem_text stem ++ number_text n) (b ∷ []))
+    ap (λ x. place_text o ++ (stem_text stem ++ x)) e ∙ ap (λ x. place_text o ++ x) (sym (append_assoc (stem_text stem) (number_text n) (b ∷ [])))
+    ∙ sym (append_assoc (place_text o) (stem_text stem ++ number_text n) (b ∷ []))
 
 digit_moves : (s : Reading) (d : ℕ) → d < 10 → Ranged s → IfSome (step s (Class.Digit d)) (Follows s (48 + d))
 digit_moves start d l h = tt
@@ -69,7 +70,7 @@ point_moves start h = tt
 point_moves (named c) h = tt
 point_moves (within_term o stem None) h = tt
 point_moves (within_term o stem (Some n)) h = (
-  ap (λ x. operand_text o ++ x) (append-nil (written_term (closed stem n) ++ (point ∷ [])) ∙ ap (λ x. x ++ (point ∷ [])) (closed_text stem n)) ∙ sym (append_assoc (operand_text o) (stem_text stem ++ decimal n) (point ∷ [])),
+  ap (λ x. place_text o ++ x) (append-nil (written_term (closed stem n) ++ (point ∷ [])) ∙ ap (λ x. x ++ (point ∷ [])) (closed_text stem n)) ∙ sym (append_assoc (place_text o) (stem_text stem ++ decimal n) (point ∷ [])),
   (h.0, closed_sized stem n h.1 h.2, tt),
 )
 point_moves (within_value p n) h = tt
@@ -81,15 +82,15 @@ space_moves (named Call.List) h = tt
 space_moves (named Call.Value) h = (refl, (tt, tt, tt))
 space_moves (named Call.Is) h = (refl, (tt, tt, tt))
 space_moves (named (Call.Relate r)) h = (refl, (tt, tt, tt))
-space_moves (within_term alone stem None) h = tt
-space_moves (within_term before_value stem None) h = tt
-space_moves (within_term (left r) stem None) h = tt
-space_moves (within_term (right r p) stem None) h = tt
-space_moves (within_term alone stem (Some n)) h = tt
-space_moves (within_term before_value stem (Some n)) h = (ap (λ x. 107 ∷ space ∷ (x ++ (space ∷ []))) (closed_text stem n), (closed_sized stem n h.1 h.2, tt))
-space_moves (within_term (left r) stem (Some n)) h =
-    (append-nil (operand_text (right r (closed stem n))) ∙ ap (λ x. relation_letter r ∷ space ∷ (x ++ (space ∷ []))) (closed_text stem n), (closed_sized stem n h.1 h.2, tt, tt))
-space_moves (within_term (right r p) stem (Some n)) h = tt
+space_moves (within_term Place.Value stem None) h = tt
+space_moves (within_term Place.Is stem None) h = tt
+space_moves (within_term (Place.Left r) stem None) h = tt
+space_moves (within_term (Place.Right r p) stem None) h = tt
+space_moves (within_term Place.Value stem (Some n)) h = tt
+space_moves (within_term Place.Is stem (Some n)) h = (ap (λ x. 107 ∷ space ∷ (x ++ (space ∷ []))) (closed_text stem n), (closed_sized stem n h.1 h.2, tt))
+space_moves (within_term (Place.Left r) stem (Some n)) h =
+    (append-nil (place_text (Place.Right r (closed stem n))) ∙ ap (λ x. relation_letter r ∷ space ∷ (x ++ (space ∷ []))) (closed_text stem n), (closed_sized stem n h.1 h.2, tt, tt))
+space_moves (within_term (Place.Right r p) stem (Some n)) h = tt
 space_moves (within_value p n) h = tt
 
 pub moves : (s : Reading) (k : Class) (b : ℕ) → Classed b k → Ranged s → IfSome (step s k) (Follows s b)
@@ -120,14 +121,14 @@ said (named Call.List) h = (tt, refl)
 said (named Call.Value) h = tt
 said (named Call.Is) h = tt
 said (named (Call.Relate r)) h = tt
-said (within_term alone stem None) h = tt
-said (within_term before_value stem None) h = tt
-said (within_term (left r) stem None) h = tt
-said (within_term (right r p) stem None) h = tt
-said (within_term alone stem (Some n)) h = (closed_sized stem n h.1 h.2, ap (λ x. 119 ∷ space ∷ x) (sym (closed_text stem n)))
-said (within_term before_value stem (Some n)) h = tt
-said (within_term (left r) stem (Some n)) h = tt
-said (within_term (right r p) stem (Some n)) h = pair r h.0 (closed_sized stem n h.1 h.2) (ap (λ x. operand_text (right r p) ++ x) (sym (closed_text stem n)) ∙ ap (λ x. relation_letter r ∷ space ∷ x) (append_assoc (written_term p) (space ∷ []) (written_term (closed stem n))))
+said (within_term Place.Value stem None) h = tt
+said (within_term Place.Is stem None) h = tt
+said (within_term (Place.Left r) stem None) h = tt
+said (within_term (Place.Right r p) stem None) h = tt
+said (within_term Place.Value stem (Some n)) h = (closed_sized stem n h.1 h.2, ap (λ x. 119 ∷ space ∷ x) (sym (closed_text stem n)))
+said (within_term Place.Is stem (Some n)) h = tt
+said (within_term (Place.Left r) stem (Some n)) h = tt
+said (within_term (Place.Right r p) stem (Some n)) h = pair r h.0 (closed_sized stem n h.1 h.2) (ap (λ x. place_text (Place.Right r p) ++ x) (sym (closed_text stem n)) ∙ ap (λ x. relation_letter r ∷ space ∷ x) (append_assoc (written_term p) (space ∷ []) (written_term (closed stem n))))
   where
     pair : (r : Relation) {line : List ℕ} {q : Term} → Sized p → Sized q → line ≡ relation_letter r ∷ space ∷ (written_term p ++ (space ∷ written_term q)) → Writes (related r p q) line
     pair Relation.Equals sp sq e = ((sp, sq), e)
@@ -147,39 +148,39 @@ good_value p (Some v) sp l = good_said (within_value p (Some v)) _ refl (sp, l)
 good_value p None sp l =
     good_back (within_value p None) (within_value p (Some 0)) 48 (digit_moves (within_value p None) 0 (omega arith) (sp, tt)) (good_said (within_value p (Some 0)) _ refl (sp, omega arith))
 
-good_right : (r : Relation) (p : Term) (stem : Option Term) (n : ℕ) → Sized p → SizedStem stem → n < 2 ^ 16 → Good (text (within_term (right r p) stem (Some n)))
-good_right r p stem n sp ss l = good_said (within_term (right r p) stem (Some n)) _ refl (sp, ss, l)
+good_right : (r : Relation) (p : Term) (stem : Option Term) (n : ℕ) → Sized p → SizedStem stem → n < 2 ^ 16 → Good (text (within_term (Place.Right r p) stem (Some n)))
+good_right r p stem n sp ss l = good_said (within_term (Place.Right r p) stem (Some n)) _ refl (sp, ss, l)
 
-good_digit : (o : Operand) (stem : Option Term) → SizedOperand o → SizedStem stem → Good (text (within_term o stem (Some 0))) → Good (text (within_term o stem None))
+good_digit : (o : Place) (stem : Option Term) → SizedPlace o → SizedStem stem → Good (text (within_term o stem (Some 0))) → Good (text (within_term o stem None))
 good_digit o stem so ss g = good_back (within_term o stem None) (within_term o stem (Some 0)) 48 (digit_moves (within_term o stem None) 0 (omega arith) (so, ss, tt)) g
 
-good_term : (o : Operand) (stem : Option Term) (n : ℕ) → SizedOperand o → SizedStem stem → n < 2 ^ 16 → Good (text (within_term o stem (Some n)))
-good_term alone stem n so ss l = good_said (within_term alone stem (Some n)) _ refl (so, ss, l)
-good_term before_value stem n so ss l =
+good_term : (o : Place) (stem : Option Term) (n : ℕ) → SizedPlace o → SizedStem stem → n < 2 ^ 16 → Good (text (within_term o stem (Some n)))
+good_term Place.Value stem n so ss l = good_said (within_term Place.Value stem (Some n)) _ refl (so, ss, l)
+good_term Place.Is stem n so ss l =
     let t = closed stem n in
-    good_back (within_term before_value stem (Some n)) (within_value t None) space (space_moves (within_term before_value stem (Some n)) (so, ss, l)) (good_value t None (closed_sized stem n ss l) tt)
-good_term (left r) stem n so ss l =
+    good_back (within_term Place.Is stem (Some n)) (within_value t None) space (space_moves (within_term Place.Is stem (Some n)) (so, ss, l)) (good_value t None (closed_sized stem n ss l) tt)
+good_term (Place.Left r) stem n so ss l =
     let t = closed stem n in
     let st = closed_sized stem n ss l in
-    good_back (within_term (left r) stem (Some n)) (within_term (right r t) None None) space (space_moves (within_term (left r) stem (Some n)) (so, ss, l)) (good_digit (right r t) None st tt (good_right r t None 0 st tt (omega arith)))
-good_term (right r p) stem n so ss l = good_right r p stem n so ss l
+    good_back (within_term (Place.Left r) stem (Some n)) (within_term (Place.Right r t) None None) space (space_moves (within_term (Place.Left r) stem (Some n)) (so, ss, l)) (good_digit (Place.Right r t) None st tt (good_right r t None 0 st tt (omega arith)))
+good_term (Place.Right r p) stem n so ss l = good_right r p stem n so ss l
 
-good_operand : (o : Operand) → SizedOperand o → Good (text (within_term o None None))
+good_operand : (o : Place) → SizedPlace o → Good (text (within_term o None None))
 good_operand o so = good_digit o None so tt (good_term o None 0 so tt (omega arith))
 
 pub good_text : (s : Reading) → Ranged s → Good (text s)
 good_text start h = good_before [] (118 ∷ []) (good_said (named Call.Declare) _ refl tt)
 good_text (named Call.Declare) h = good_said (named Call.Declare) _ refl tt
 good_text (named Call.List) h = good_said (named Call.List) _ refl tt
-good_text (named Call.Value) h = good_back (named Call.Value) (within_term alone None None) space (space_moves (named Call.Value) tt) (good_operand alone tt)
-good_text (named Call.Is) h = good_back (named Call.Is) (within_term before_value None None) space (space_moves (named Call.Is) tt) (good_operand before_value tt)
-good_text (named (Call.Relate r)) h = good_back (named (Call.Relate r)) (within_term (left r) None None) space (space_moves (named (Call.Relate r)) tt) (good_operand (left r) tt)
+good_text (named Call.Value) h = good_back (named Call.Value) (within_term Place.Value None None) space (space_moves (named Call.Value) tt) (good_operand Place.Value tt)
+good_text (named Call.Is) h = good_back (named Call.Is) (within_term Place.Is None None) space (space_moves (named Call.Is) tt) (good_operand Place.Is tt)
+good_text (named (Call.Relate r)) h = good_back (named (Call.Relate r)) (within_term (Place.Left r) None None) space (space_moves (named (Call.Relate r)) tt) (good_operand (Place.Left r) tt)
 good_text (within_term o stem None) h = good_digit o stem h.0 h.1 (good_term o stem 0 h.0 h.1 (omega arith))
 good_text (within_term o stem (Some n)) h = good_term o stem n h.0 h.1 h.2
 good_text (within_value p n) h = good_value p n h.0 h.1
 
 -- where the machine stops, no line goes on
-stops : (s : Reading) (k : Class) (b : ℕ) → Classed b k → Ranged s → step s k ≡ None → Good (text s ++ (b ∷ [])) → ⊥
+pub stops : (s : Reading) (k : Class) (b : ℕ) → Classed b k → Ranged s → step s k ≡ None → Good (text s ++ (b ∷ [])) → ⊥
 stops s k b e h stuck (c, rest, w) =
     let a = accepts c ((text s ++ (b ∷ [])) ++ rest) w in
     let here : run (Some start) ((text s ++ (b ∷ [])) ++ rest) ≡ None =
@@ -213,7 +214,7 @@ path_bytes : (path : List ℕ) → AllByRecursion (λ a. a < 2 ^ 16) path → 2 
 path_bytes [] h = omega arith
 path_bytes (a ∷ path) h = omega (arith, length-append (decimal a) (written_path path), decimal_nonempty a (omega (arith, h.0)), path_bytes path h.1)
 
-pub stem_bytes : (o : Operand) (t : Term) (n : Option ℕ) → Sized t → 2 * length t.path + 2 ≤ length (text (within_term o (Some t) n))
+pub stem_bytes : (o : Place) (t : Term) (n : Option ℕ) → Sized t → 2 * length t.path + 2 ≤ length (text (within_term o (Some t) n))
 unfolding written_term
 stem_bytes o t n h =
-    omega (arith, length-append (operand_text o) (stem_text (Some t) ++ number_text n), length-append (stem_text (Some t)) (number_text n), length-append (written_term t) (point ∷ []), length-append (decimal t.var) (written_path t.path), path_bytes t.path h.path, decimal_nonempty t.var (omega (arith, h.var)))
+    omega (arith, length-append (place_text o) (stem_text (Some t) ++ number_text n), length-append (stem_text (Some t)) (number_text n), length-append (written_term t) (point ∷ []), length-append (decimal t.var) (written_path t.path), path_bytes t.path h.path, decimal_nonempty t.var (omega (arith, h.var)))

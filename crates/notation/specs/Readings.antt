@@ -5,19 +5,13 @@ use Rattle.notation.specs.Notation.{Command, equals, apart, same, value, space, 
 use Rattle.notation.specs.Classes.{letter, relation_letter}
 use Rattle.notation.specs.declared.class.Relation.{Relation}
 use Rattle.notation.specs.declared.class.Call.{Call}
-
--- where a term stands: alone, before a value, or at a side of a pair
-pub data Operand : Type 0 where
-  alone : Operand
-  before_value : Operand
-  left : Relation → Operand
-  right : Relation → Term → Operand
+use Rattle.notation.specs.declared.state.Place.{Place}
 
 -- nothing; a letter; within a term, of which the part before the last point stands apart; within a value
 pub data Reading : Type 0 where
   start : Reading
   named : Call → Reading
-  within_term : Operand → Option Term → Option ℕ → Reading
+  within_term : Place → Option Term → Option ℕ → Reading
   within_value : Term → Option ℕ → Reading
 
 abbrev pub stem_text : Option Term → List ℕ
@@ -28,17 +22,17 @@ abbrev pub number_text : Option ℕ → List ℕ
 number_text None = []
 number_text (Some n) = decimal n
 
-abbrev pub operand_text : Operand → List ℕ
-operand_text alone = 119 ∷ space ∷ []
-operand_text before_value = 107 ∷ space ∷ []
-operand_text (left r) = relation_letter r ∷ space ∷ []
-operand_text (right r p) = relation_letter r ∷ space ∷ (written_term p ++ (space ∷ []))
+abbrev pub place_text : Place → List ℕ
+place_text Place.Value = 119 ∷ space ∷ []
+place_text Place.Is = 107 ∷ space ∷ []
+place_text (Place.Left r) = relation_letter r ∷ space ∷ []
+place_text (Place.Right r p) = relation_letter r ∷ space ∷ (written_term p ++ (space ∷ []))
 
 -- what was read
 abbrev pub text : Reading → List ℕ
 text start = []
 text (named c) = letter c ∷ []
-text (within_term o stem n) = operand_text o ++ (stem_text stem ++ number_text n)
+text (within_term place stem n) = place_text place ++ (stem_text stem ++ number_text n)
 text (within_value p n) = 107 ∷ space ∷ (written_term p ++ (space ∷ number_text n))
 
 abbrev pub SizedStem : Option Term → Type 0
@@ -49,17 +43,17 @@ abbrev pub Below : ℕ → Option ℕ → Type 0
 Below limit None = Unit {0}
 Below limit (Some n) = n < limit
 
-abbrev pub SizedOperand : Operand → Type 0
-SizedOperand alone = Unit {0}
-SizedOperand before_value = Unit {0}
-SizedOperand (left r) = Unit {0}
-SizedOperand (right r p) = Sized p
+abbrev pub SizedPlace : Place → Type 0
+SizedPlace Place.Value = Unit {0}
+SizedPlace Place.Is = Unit {0}
+SizedPlace (Place.Left r) = Unit {0}
+SizedPlace (Place.Right r p) = Sized p
 
 -- the numbers are within their limits
 abbrev pub Ranged : Reading → Type 0
 Ranged start = Unit {0}
 Ranged (named c) = Unit {0}
-Ranged (within_term o stem n) = SizedOperand o × SizedStem stem × Below (2 ^ 16) n
+Ranged (within_term place stem n) = SizedPlace place × SizedStem stem × Below (2 ^ 16) n
 Ranged (within_value p n) = Sized p × Below (2 ^ 64) n
 
 -- the term of which the number is the last
@@ -73,11 +67,11 @@ related Relation.Apart p q = apart p q
 related Relation.Same p q = same p q
 
 -- the command of a line that ends after a term
-abbrev pub ended : Operand → Term → Option Command
-ended alone t = Some (value t)
-ended before_value t = None
-ended (left r) t = None
-ended (right r p) t = Some (related r p t)
+abbrev pub ended : Place → Term → Option Command
+ended Place.Value t = Some (value t)
+ended Place.Is t = None
+ended (Place.Left r) t = None
+ended (Place.Right r p) t = Some (related r p t)
 
 -- one byte more was read
 abbrev pub Follows : Reading → ℕ → Reading → Type 0

@@ -1,7 +1,7 @@
 // A call with its operands.
 use crate::path::Path;
 
-#[derive(Clone, Copy)]
+#[derive(Drop)]
 pub enum Command {
     Declare,
     Equals(Path, Path),

@@ -27,15 +27,9 @@ pub fn read(line: &[u8]) -> Result<Command, Malformed>
     }
     let mut state = State::Start;
     for (i, byte) in line.iter().enumerate() {
-        match state.step(*byte) {
-            Some(next) => state = next,
-            None => return Err(Malformed::Unfit(i)),
-        }
+        state.step(*byte).ok_or(Malformed::Unfit(i))?;
     }
-    match state.command() {
-        Some(command) => Ok(command),
-        None => Err(Malformed::Unfit(line.len())),
-    }
+    state.command().ok_or(Malformed::Unfit(line.len()))
 }
 
 #[cfg(test)]
@@ -93,10 +87,10 @@ mod tests {
         let Ok(Command::Equals(left, right)) = read(b"e 0.65535.2 13") else {
             return Err(Fail::new("no equation"));
         };
-        assert_eq!(rt; left.var(), 0);
-        assert_eq!(rt; left.attributes(), [65535, 2].as_slice());
-        assert_eq!(rt; right.var(), 13);
-        assert!(rt; right.attributes().is_empty());
+        assert_eq!(rt; left.term().var, 0);
+        assert_eq!(rt; left.term().path, [65535, 2].as_slice());
+        assert_eq!(rt; right.term().var, 13);
+        assert!(rt; right.term().path.is_empty());
         let Ok(Command::Is(_, value)) = read(b"k 7 18446744073709551615") else {
             return Err(Fail::new("no value"));
         };

@@ -1,9 +1,13 @@
 // How far a line was read.
+ghost use Rattle.std.specs.Prelude.{◌≤◌, length};
+ghost use Rattle.notation.specs.Readings.{within_term, within_value, text, Ranged};
+ghost use Rattle.notation.specs.Known.{ranged_prop};
+
 use crate::class::{Call, Relation};
 use crate::path::Path;
 
-// The operand in which the reader is.
-#[derive(Clone, Copy)]
+// Where a term stands: alone, before a value, or at a side of a pair.
+#[derive(Drop)]
 pub enum Place {
     Value,
     Is,
@@ -11,13 +15,29 @@ pub enum Place {
     Right(Relation, Path),
 }
 
-#[derive(Clone, Copy)]
+// A term that is being read: where it stands, what stands before its last point, and the number so far.
+#[derive(Drop)]
+pub struct Operand {
+    pub place: Place,
+    pub stem: Option<Path>,
+    pub number: Option<u64>,
+    ghost ranged: { Ranged (within_term place stem number) } by { ranged_prop (within_term place stem number) },
+    ghost short: { length (text (within_term place stem number)) ≤ 120 },
+}
+
+// A value that is being read: the term that it is given to, and the number so far.
+#[derive(Drop)]
+pub struct Assignment {
+    pub term: Path,
+    pub number: Option<u64>,
+    ghost ranged: { Ranged (within_value term number) } by { ranged_prop (within_value term number) },
+}
+
+#[derive(Drop)]
 pub enum State {
     Start,
     // after the letter
     Named(Call),
-    // in a term: what stands before the last point, and the number so far
-    Term(Place, Option<Path>, Option<u64>),
-    // in the value that the term is given: the number so far
-    Number(Path, Option<u64>),
+    Term(Operand),
+    Number(Assignment),
 }

@@ -2,8 +2,6 @@
 ghost use Rattle.notation.specs.Notation.{OneCommand};
 
 // A line writes at most one command.
-pub fn one_command() -> u8
+pub fn one_command()
     ensures { OneCommand }
-{
-    0
-}
+{}

@@ -1,5 +1,5 @@
 -- Where every numbered node was visited, the numbers are breadth first.
-use Rattle.std.proofs.Common.{◌≡◌, ℕ, ◌<◌, ◌⊎◌, [], sym, refl, ap, ◌∙◌, subst, subst₂, inl, inr, arith}
+use Rattle.std.proofs.Common.{◌≡◌, ℕ, ◌<◌, ◌⊎◌, [], vec_len, sym, refl, ap, ◌∙◌, subst, subst₂, inl, inr, arith}
 use mathlib.Core.Option.{Option, some, map, map-eq-some_iff}
 use Rattle.features.specs.Graphs.{Graph}
 use Rattle.features.specs.Numbering.{Mention, by_variable, by_attribute, Mentions, Sooner, FirstMention, BreadthFirst, Inside}
@@ -71,15 +71,14 @@ module _ (g : Graph) (count : ℕ) (o n : ℕ → ℕ) where
           (at.rising j k lt in_c);
     }
 
-pub complete : (g : Graph) (n : Numbers) → Underway g (by_attribute n.count 0) n.count n [] → Numbered g n
+pub complete : (g : Graph) (n : Numbers) → Underway g (by_attribute (vec_len n.listed) 0) (vec_len n.listed) n [] → Numbered g n
 complete g n at =
-    let order = numbering g n.count (ord n) (num n) (given n) at.numbered in
-    let first = breadth_first g n.count (ord n) (num n) (given n) at.numbered in
+    let order = numbering g (vec_len n.listed) (ord n) (num n) (given n) at.numbered in
+    let first = breadth_first g (vec_len n.listed) (ord n) (num n) (given n) at.numbered in
     record {
-      room = at.room;
-      few = few g (by_attribute n.count 0) n.count (ord n) (num n) (given n) at.numbered;
+      few = few g (by_attribute (vec_len n.listed) 0) (vec_len n.listed) (ord n) (num n) (given n) at.numbered;
       numbering = order;
       breadth_first = first;
-      in_order = breadth_first_in_order (renumbered g n.count (ord n) (num n)) (inside_numbers g n.count (ord n) (num n) order) first;
-      first = first_mention g n.count (ord n) (num n) (given n) at.numbered;
+      in_order = breadth_first_in_order (renumbered g (vec_len n.listed) (ord n) (num n)) (inside_numbers g (vec_len n.listed) (ord n) (num n) order) first;
+      first = first_mention g (vec_len n.listed) (ord n) (num n) (given n) at.numbered;
     }

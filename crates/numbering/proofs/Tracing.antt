@@ -1,16 +1,16 @@
 -- Following the mentions of a number back.
-use Rattle.std.proofs.Common.{◌≡◌, ℕ, zero, suc, ◌+◌, ◌-◌, ◌<◌, ◌≤◌, List, [], ◌∷◌, ◌++◌, length, get_or, take, set, vec_items, sym, refl, ap, ◌∙◌, subst, append_assoc, append-nil, arith, length-append, length-take-le}
-use lib.Seq.{take-set-lt, set-append_left}
-use Rattle.std.proofs.lemmas.List.{take_more_set, get_or_read}
+use Rattle.std.proofs.Common.{◌≡◌, ℕ, zero, suc, ◌+◌, ◌<◌, List, [], ◌∷◌, ◌++◌, reverse, length, get_or, take, drop, set, vec_items, vec_len, sym, refl, ap, ◌∙◌, subst, append_assoc, append-nil, arith}
+use Rattle.std.proofs.Math.Seq.{set-append_seam, take-append_seam, drop-append_seam}
+use Rattle.std.proofs.lemmas.Grind.{reverse_onto}
+use Rattle.std.proofs.lemmas.List.{get_or_read, drop_more, length-reverse, reverse-reverse}
 use Rattle.features.specs.Terms.{Term, only, ◌▸◌}
 use Rattle.features.specs.Graphs.{Graph}
 use Rattle.features.specs.Order.{Trail}
 use Rattle.features.specs.Numbering.{Mention, by_variable, by_attribute, FirstMention}
 use Rattle.features.proofs.Numbering.{trails_by_first_mention}
-use Rattle.numbering.specs.declared.mention.Mention.{Mention as Found}
-use Rattle.numbering.specs.declared.mention.Mention.TheVariants.{Variable, Attribute}
+use Rattle.numbering.specs.declared.numbers.Listed.{Listed}
 use Rattle.numbering.specs.declared.numbers.Numbers.{Numbers}
-use Rattle.numbering.specs.Given.{ord, num, given, meaning, Room}
+use Rattle.numbering.specs.Given.{blank, ord, num, given, meaning}
 use Rattle.numbering.specs.Frontier.{Numbered, in_numbers}
 use Rattle.numbering.specs.Traces.{Traced, at_variable, at_attribute}
 use Rattle.numbering.proofs.Complete.{inside_numbers}
@@ -31,19 +31,19 @@ module _ (n : Numbers) where
   trace_end x e (at_attribute f r) = absurd (let p = sym f ∙ e in let z : ◌≡◌ {A = ℕ} 0 1 = cc p in omega arith)
 
   module _ (g : Graph) (of : Numbered g n) where
-    first_is : (k : ℕ) (m : Mention) → k < n.count → given n k ≡ m → FirstMention (in_numbers g n) k m
+    first_is : (k : ℕ) (m : Mention) → k < vec_len n.listed → given n k ≡ m → FirstMention (in_numbers g n) k m
     first_is k m lt e = subst (λ (z : Mention). FirstMention (in_numbers g n) k z) e (of.first k lt)
 
-    pub giver_before : (k i a : ℕ) → k < n.count → given n k ≡ by_attribute i a → i < k
+    pub giver_before : (k i a : ℕ) → k < vec_len n.listed → given n k ≡ by_attribute i a → i < k
     giver_before k i a lt e = of.breadth_first.numbered_before k i a lt (first_is k (by_attribute i a) lt e)
 
-    pub traced_trail : {k : ℕ} {t : Term} → k < n.count → Traced n k t → Trail (in_numbers g n) k t
-    traced_trail {k} lt (at_variable {x = x} e) = (trails_by_first_mention (in_numbers g n) (inside_numbers g n.count (ord n) (num n) of.numbering) of.in_order).at_variable k x lt (first_is k (by_variable x) lt e)
+    pub traced_trail : {k : ℕ} {t : Term} → k < vec_len n.listed → Traced n k t → Trail (in_numbers g n) k t
+    traced_trail {k} lt (at_variable {x = x} e) = (trails_by_first_mention (in_numbers g n) (inside_numbers g (vec_len n.listed) (ord n) (num n) of.numbering) of.in_order).at_variable k x lt (first_is k (by_variable x) lt e)
     traced_trail {k} lt (at_attribute {i = i} {a = a} {t = t} e r) =
         let h = giver_before k i a lt e in
-        (trails_by_first_mention (in_numbers g n) (inside_numbers g n.count (ord n) (num n) of.numbering) of.in_order).at_attribute k i a t lt (first_is k (by_attribute i a) lt e) (traced_trail (omega arith) r)
+        (trails_by_first_mention (in_numbers g n) (inside_numbers g (vec_len n.listed) (ord n) (num n) of.numbering) of.in_order).at_attribute k i a t lt (first_is k (by_attribute i a) lt e) (traced_trail (omega arith) r)
 
-    traced_below : (b k : ℕ) → k < b → k < n.count → (t : Term) × Traced n k t
+    traced_below : (b k : ℕ) → k < b → k < vec_len n.listed → (t : Term) × Traced n k t
     traced_below zero k less lt = absurd (omega arith)
     traced_below (suc b) k less lt = by_mention (given n k) refl (λ i h. traced_below b i (omega arith) (omega arith))
       where
@@ -51,7 +51,7 @@ module _ (n : Numbers) where
         by_mention (by_variable x) e before = (only x, at_variable e)
         by_mention (by_attribute i a) e before = let r = before i (giver_before k i a lt e) in (r.0 ▸ a, at_attribute e r.1)
 
-    pub traced : (k : ℕ) → k < n.count → (t : Term) × Traced n k t
+    pub traced : (k : ℕ) → k < vec_len n.listed → (t : Term) × Traced n k t
     traced k lt = traced_below (suc k) k (omega arith) lt
 
 -- so far back as number j, the attributes passed are rest
@@ -80,42 +80,25 @@ module _ (n : Numbers) (t : Term) (j : ℕ) (rest : List ℕ) (at : Passed n t j
       let f = trace_end n x e at.traced in
       (ap (λ (z : Term). z.var) (sym f) ∙ at.var, ap (λ (z : Term). z.path ++ rest) (sym f) ∙ at.path)
 
-  passed_short : length rest ≤ length t.path
-  passed_short = omega (arith, sym (length-append at.front.path rest) ∙ ap length at.path)
-
--- an attribute that is passed is one of the term's
-pub one_passed : (n : Numbers) (t : Term) (j : ℕ) (rest : List ℕ) → Passed n t j rest → (i a : ℕ) → given n j ≡ by_attribute i a → length rest < length t.path
-one_passed n t j rest at i a e = let h = passed_short n t i (a ∷ rest) (pass n t j rest at i a e) in omega arith
-
 -- what the mention read from memory says
-pub given_is : (n : Numbers) (k : ℕ) (m : Found) → Room n → k < n.count → m ≡ get_or (vec_items n.mentions) k m → given n k ≡ meaning m
-given_is n k m room lt read =
-    let short : k < length (vec_items n.mentions) = omega (arith, n.mentions.ok.0, room.mentions, room.count) in
-    ap meaning (sym (get_or_read (vec_items n.mentions) k m short read (Variable 0)))
+pub given_is : (n : Numbers) (k : ℕ) (l : Listed) → k < vec_len n.listed → l ≡ get_or (vec_items n.listed) k l → given n k ≡ meaning l.mention
+given_is n k l lt read =
+    let short : k < length (vec_items n.listed) = omega (arith, n.listed.ok.0) in
+    ap (λ (z : Listed). meaning z.mention) (sym (get_or_read (vec_items n.listed) k l short read blank))
 
-pub giver_is : (n : Numbers) (k : ℕ) (m : Found) (i a : ℕ) → Room n → k < n.count → m ≡ get_or (vec_items n.mentions) k m → m ≡ Attribute i a → given n k ≡ by_attribute i a
-giver_is n k m i a room lt read is = given_is n k m room lt read ∙ ap meaning is
+-- one attribute more is written after those that were
+pub written_more : (old rest : List ℕ) (n a : ℕ) → length rest ≡ n → n < length old → set (reverse rest ++ drop n old) n a ≡ reverse (a ∷ rest) ++ drop (n + 1) old
+written_more old rest n a long lt =
+    let seam : length (reverse rest) ≡ n = length-reverse rest ∙ long in
+    ap (λ (z : List ℕ). set (reverse rest ++ z) n a) (drop_more old n 0 lt)
+    ∙ subst (λ (z : ℕ). set (reverse rest ++ (get_or old n 0 ∷ drop (n + 1) old)) z a ≡ reverse rest ++ (a ∷ drop (n + 1) old)) seam
+    (set-append_seam (reverse rest) (get_or old n 0) (drop (n + 1) old) a)
+    ∙ sym (append_assoc (reverse rest) (a ∷ []) (drop (n + 1) old)) ∙ ap (λ (z : List ℕ). z ++ drop (n + 1) old) (sym (reverse_onto rest a []))
 
--- where a number is mentioned by an attribute, one is left, of no more than the term has
-pub left_over : (n : Numbers) (g : Graph) → Numbered g n → (k j left long i a : ℕ) → k < n.count → ((t : Term) → Traced n k t → long ≡ length t.path)
-    → ((t : Term) → Traced n k t → (rest : List ℕ) × Passed n t j rest × (length rest + left ≡ length t.path)) → given n j ≡ by_attribute i a → (0 < left) × (left ≤ long)
-left_over n g of k j left long i a lt whole passed e =
-    let t = traced n g of k lt in
-    let p = passed t.0 t.1 in
-    let less = one_passed n t.0 j p.0 p.1 i a e in
-    let sum = p.2 in
-    let is = whole t.0 t.1 in
-    (omega arith, omega arith)
-
--- one attribute more is written in front of those that were
-write_at : (old rest : List ℕ) (i a : ℕ) → i < length old → set (take (i + 1) old ++ rest) i a ≡ take i old ++ (a ∷ rest)
-write_at old rest i a lt =
-    let short : i < length (take (i + 1) old) = omega (arith, length-take-le (i + 1) old (omega arith)) in
-    set-append_left (take (i + 1) old) rest i a short
-    ∙ ap (λ (z : List ℕ). z ++ rest) (sym (take-set-lt (i + 1) old i a (omega arith)) ∙ take_more_set old i a lt)
-    ∙ append_assoc (take i old) (a ∷ []) rest
-
-pub write_one : (old rest : List ℕ) (left a : ℕ) → 0 < left → left ≤ length old → set (take left old ++ rest) (left - 1) a ≡ take (left - 1) old ++ (a ∷ rest)
-write_one old rest left a some_left fits =
-    let e : left - 1 + 1 ≡ left = omega arith in
-    subst (λ (z : ℕ). set (take z old ++ rest) (left - 1) a ≡ take (left - 1) old ++ (a ∷ rest)) e (write_at old rest (left - 1) a (omega arith))
+-- what was written, turned round
+pub written_all : (old rest out : List ℕ) (n : ℕ) → length rest ≡ n → out ≡ reverse rest ++ drop n old → reverse (take n out) ++ drop n out ≡ rest ++ drop n old
+written_all old rest out n long is =
+    let seam : length (reverse rest) ≡ n = length-reverse rest ∙ long in
+    let front : take n out ≡ reverse rest = ap (take n) is ∙ subst (λ (z : ℕ). take z (reverse rest ++ drop n old) ≡ reverse rest) seam (take-append_seam (reverse rest) (drop n old)) in
+    let back : drop n out ≡ drop n old = ap (drop n) is ∙ subst (λ (z : ℕ). drop z (reverse rest ++ drop n old) ≡ drop n old) seam (drop-append_seam (reverse rest) (drop n old)) in
+    ap (λ (z : List ℕ). reverse z ++ drop n out) front ∙ ap (λ (z : List ℕ). z ++ drop n out) (reverse-reverse rest) ∙ ap (λ (z : List ℕ). rest ++ z) back

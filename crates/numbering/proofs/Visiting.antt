@@ -1,17 +1,17 @@
 -- The attributes of a row, from the lowest up.
-use Rattle.std.proofs.Common.{◌≡◌, ℕ, ◌+◌, ◌<◌, ◌≤◌, Bool, true, false, cond, ◌&&◌, ltb, ◌⊎◌, List, [], ◌∷◌, ◌++◌, length, get_or, vec_items, sym, refl, ap, ◌∙◌, subst, inl, inr, arith}
-use mathlib.Core.Option.{some, none}
-use Rattle.std.proofs.lemmas.List.{get_or_read}
-use Rattle.std.proofs.lemmas.Bool.{both_ways, cases_lt, cases_eq, and_from, lt-ltb}
+use Rattle.std.proofs.Common.{◌≡◌, ℕ, ◌+◌, ◌<◌, ◌≤◌, Bool, true, false, ◌⊎◌, List, [], ◌∷◌, ◌++◌, length, vec_items, vec_len, sym, refl, ap, ◌∙◌, subst, inl, inr, arith}
+use mathlib.Core.Option.{some}
+use Rattle.std.proofs.lemmas.Bool.{both_ways, cases_lt, cases_eq}
 use Rattle.kinds.specs.Masks.{has}
 use Rattle.kinds.specs.BitSets.{has_none}
 use Rattle.features.specs.Graphs.{Graph}
 use Rattle.features.specs.Numbering.{Mention, by_variable, by_attribute, Sooner}
 use Rattle.tables.specs.declared.node.Node.{Node}
 use Rattle.tables.specs.declared.table.Table.{Table}
-use Rattle.tables.specs.Views.{blank, edge_of, graph, Sound}
+use Rattle.tables.specs.Views.{row as row_of, edge_of, graph, Sound}
 use Rattle.tables.specs.Attributes.{Lowest, WithoutLowest}
-use Rattle.tables.proofs.Leading.{present}
+use Rattle.tables.proofs.Leading.{not_present}
+use Rattle.tables.proofs.Walking.{nowhere}
 use Rattle.numbering.specs.declared.mention.Mention.TheVariants.{Attribute}
 use Rattle.numbering.specs.declared.numbers.Numbers.{Numbers}
 use Rattle.numbering.specs.Given.{ord, HasNumber, Next}
@@ -29,22 +29,15 @@ all_left present = record { below = λ b lt. absurd (omega arith); above = λ b 
 
 -- an attribute of a row is in its set
 pub edge_present : (r : Node) (b y : ℕ) → edge_of r b ≡ some y → has r.present b ≡ true
-edge_present r b y e = read (ltb b 32) (has r.present b) e
+edge_present r b y e = pick (has r.present b) refl
   where
-    read : (p q : Bool) → cond (p && q) (some (get_or r.targets b 0)) none ≡ some y → q ≡ true
-    read true true e = refl
-    read true false e = absurd (let z : ◌≡◌ {A = ℕ} 0 1 = cc in omega arith)
-    read false q e = absurd (let z : ◌≡◌ {A = ℕ} 0 1 = cc in omega arith)
-
-pub present_edge : (r : Node) (b : ℕ) → b < 32 → has r.present b ≡ true → edge_of r b ≡ some (get_or r.targets b 0)
-present_edge r b lt h = present r b (and_from (ltb b 32) (has r.present b) (lt-ltb b 32 lt) h)
+    pick : (p : Bool) → has r.present b ≡ p → has r.present b ≡ true
+    pick true h = h
+    pick false h = absurd (nowhere (edge_of r b) (not_present r b h) e)
 
 module _ (set left a b : ℕ) (at : Left set left a) (lowest : Lowest left b) where
   pub lowest_above : a ≤ b
   lowest_above = elim (cases_lt b a) [ inl lt ↦ absurd (both_ways (has left b) (at.below b lt) lowest.present) | inr le ↦ le ]
-
-  pub lowest_present : has set b ≡ true
-  lowest_present = sym (at.above b lowest_above) ∙ lowest.present
 
   pub one_less : (rest : ℕ) → WithoutLowest left rest → Left set rest (b + 1)
   one_less rest w = record {
@@ -62,7 +55,7 @@ module _ (g : Graph) (v i a : ℕ) (n : Numbers) (waits : List ℕ) (r : Node) (
       before (by_attribute j c) (inl s) = inl s
       before (by_attribute j c) (inr s) = inr (s.0, omega (arith, s.1, lowest_above r.present left a b set lowest))
 
-      none_between : (y : ℕ) (l : Mention) → MentionsNode g n.count (ord n) y l → Sooner l (by_attribute i b) → Sooner l (by_attribute i a)
+      none_between : (y : ℕ) (l : Mention) → MentionsNode g (vec_len n.listed) (ord n) y l → Sooner l (by_attribute i b) → Sooner l (by_attribute i a)
       none_between y (by_variable x) p s = tt
       none_between y (by_attribute j c) p (inl s) = inl s
       none_between y (by_attribute j c) p (inr (e, lt)) =
@@ -81,7 +74,7 @@ module _ (g : Graph) (v i a : ℕ) (n : Numbers) (waits : List ℕ) (r : Node) (
       before (by_attribute j c) (inl s) = inl (omega arith)
       before (by_attribute j c) (inr s) = inl (omega (arith, s.0))
 
-      none_between : (y : ℕ) (l : Mention) → MentionsNode g n.count (ord n) y l → Sooner l (by_attribute (i + 1) 0) → Sooner l (by_attribute i a)
+      none_between : (y : ℕ) (l : Mention) → MentionsNode g (vec_len n.listed) (ord n) y l → Sooner l (by_attribute (i + 1) 0) → Sooner l (by_attribute i a)
       none_between y (by_variable x) p s = tt
       none_between y (by_attribute j c) p (inr s) = absurd (omega (arith, s.1))
       none_between y (by_attribute j c) p (inl s) = pick (cases_eq j i) (cases_lt c a)
@@ -93,39 +86,31 @@ module _ (g : Graph) (v i a : ℕ) (n : Numbers) (waits : List ℕ) (r : Node) (
               let on : edge_of r c ≡ some y = sym (is c) ∙ subst (λ (z : ℕ). g.edge (ord n z) c ≡ some y) e p.1 in
               absurd (both_ways (has left c) (ap (λ (z : ℕ). has z c) none_left ∙ has_none c) (set.above c l ∙ edge_present r c y on))
 
--- the node that is read from memory
-pub node_read : (t : Table) (row : ℕ) (r : Node) → Sound t → row < t.used → r ≡ get_or (vec_items t.rows) row r → get_or (vec_items t.rows) row blank ≡ r
-node_read t row r sound row_in read =
-    let short : row < length (vec_items t.rows) = omega (arith, t.rows.ok.0, sound.rows, sound.used) in
-    sym (get_or_read (vec_items t.rows) row r short read blank)
-
--- one turn of a visit: row i of the order has the node r, and its attributes below a were visited
-module _ (t : Table) (sound : Sound t) (row : ℕ) (row_in : row < t.used) (r : Node) (read : r ≡ get_or (vec_items t.rows) row r) (n : Numbers) (i : ℕ) (order : ord n i ≡ row) (waits : List ℕ) (left a : ℕ) (set : Left r.present left a) (at : Underway (graph t) (by_attribute i a) (i + 1) n waits) where
-  edges : (b : ℕ) → (graph t).edge (ord n i) b ≡ edge_of r b
-  edges b = ap (λ (z : ℕ). (graph t).edge z b) order ∙ ap (λ (z : Node). edge_of z b) (node_read t row r sound row_in read)
+-- one turn of a visit: row i of the order is this one, and its attributes below a were visited
+module _ (t : Table) (sound : Sound t) (row : ℕ) (row_in : row < vec_len t.rows) (n : Numbers) (i : ℕ) (order : ord n i ≡ row) (waits : List ℕ) (left a : ℕ)
+    (set : Left (row_of (vec_items t.rows) row).present left a) (at : Underway (graph t) (by_attribute i a) (i + 1) n waits) where
+  edges : (b : ℕ) → (graph t).edge (ord n i) b ≡ (graph t).edge row b
+  edges b = ap (λ (z : ℕ). (graph t).edge z b) order
 
   pub visit_done : left ≡ 0 → Underway (graph t) (by_attribute (i + 1) 0) (i + 1) n waits
-  visit_done e = to_next (graph t) (i + 1) i a n waits r left edges set at e
+  visit_done e = to_next (graph t) (i + 1) i a n waits (row_of (vec_items t.rows) row) left edges set at e
 
-  module _ (b : ℕ) (lowest : Lowest left b) where
-    leads : (graph t).edge (ord n i) b ≡ some (get_or r.targets b 0)
-    leads = edges b ∙ present_edge r b lowest.below (lowest_present r.present left a b set lowest)
-
-    pub target_in : get_or r.targets b 0 < t.used
-    target_in = sound.edges_inside row b (get_or r.targets b 0) row_in (subst (λ (z : ℕ). (graph t).edge z b ≡ some (get_or r.targets b 0)) order leads)
+  module _ (b target : ℕ) (lowest : Lowest left b) (leads : (graph t).edge row b ≡ some target) where
+    pub target_in : target < vec_len t.rows
+    target_in = sound.edges_inside row b target row_in leads
 
     before_target : Underway (graph t) (by_attribute i b) (i + 1) n waits
-    before_target = to_lowest (graph t) (i + 1) i a n waits r left edges set at b lowest
+    before_target = to_lowest (graph t) (i + 1) i a n waits (row_of (vec_items t.rows) row) left edges set at b lowest
 
-    pub target_free : (room : ℕ) → 272 ≤ room → (HasNumber n (get_or r.targets b 0) → ⊥) → (n.count < 272) × (length waits < room)
-    target_free room space = free (graph t) (by_attribute i a) (i + 1) n waits (get_or r.targets b 0) room at sound.used space target_in
+    pub target_free : (room : ℕ) → 272 ≤ room → (HasNumber n target → ⊥) → (vec_len n.listed < 272) × (length waits < room)
+    target_free room space = free (graph t) (by_attribute i a) (i + 1) n waits target room at sound.rows space target_in
 
-    module _ (n' : Numbers) (waits' : List ℕ) (if-known : HasNumber n (get_or r.targets b 0) → (n' ≡ n) × (waits' ≡ waits)) (if-fresh : (HasNumber n (get_or r.targets b 0) → ⊥) → Next n n' (get_or r.targets b 0) (Attribute i b) × (waits' ≡ waits ++ (get_or r.targets b 0 ∷ []))) where
-      here : MentionsNode (graph t) n.count (ord n) (get_or r.targets b 0) (by_attribute i b)
-      here = (omega (arith, at.visited), leads)
+    module _ (n' : Numbers) (waits' : List ℕ) (if-known : HasNumber n target → (n' ≡ n) × (waits' ≡ waits)) (if-fresh : (HasNumber n target → ⊥) → Next n n' target (Attribute i b) × (waits' ≡ waits ++ (target ∷ []))) where
+      here : MentionsNode (graph t) (vec_len n.listed) (ord n) target (by_attribute i b)
+      here = (omega (arith, at.visited), edges b ∙ leads)
 
       pub target_mentioned : Underway (graph t) (by_attribute i (b + 1)) (i + 1) n' waits'
-      target_mentioned = mentioned (graph t) (by_attribute i b) (by_attribute i (b + 1)) (i + 1) n n' waits waits' (get_or r.targets b 0) (Attribute i b) before_target (attribute_follows i b) refl sound.used target_in here if-known if-fresh
+      target_mentioned = mentioned (graph t) (by_attribute i b) (by_attribute i (b + 1)) (i + 1) n n' waits waits' target (Attribute i b) before_target (attribute_follows i b) refl sound.rows target_in here if-known if-fresh
 
       pub row_stays : ord n' i ≡ row
-      row_stays = order_stays (graph t) (by_attribute i b) (by_attribute i (b + 1)) (i + 1) n n' waits waits' (get_or r.targets b 0) (Attribute i b) before_target (attribute_follows i b) refl sound.used target_in here if-known if-fresh i (omega (arith, at.visited)) ∙ order
+      row_stays = order_stays (graph t) (by_attribute i b) (by_attribute i (b + 1)) (i + 1) n n' waits waits' target (Attribute i b) before_target (attribute_follows i b) refl sound.rows target_in here if-known if-fresh i (omega (arith, at.visited)) ∙ order

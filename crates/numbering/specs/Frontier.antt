@@ -1,12 +1,12 @@
 -- Numbers given as far as some mention, and what has them all.
-use Rattle.std.specs.Prelude.{◌≡◌, ℕ, ◌<◌, ◌≤◌, List, take, drop, vec_items}
+use Rattle.std.specs.Prelude.{◌≡◌, ℕ, ◌<◌, ◌≤◌, List, drop, vec_len}
 use Rattle.std.proofs.Math.Option.{some}
 use Rattle.features.specs.Graphs.{Graph}
 use Rattle.features.specs.Order.{InOrder}
 use Rattle.features.specs.Numbering.{Mention, by_variable, by_attribute, Sooner, FirstMention, BreadthFirst}
 use Rattle.growth.specs.Joins.{Numbering, renumbered}
 use Rattle.numbering.specs.declared.numbers.Numbers.{Numbers}
-use Rattle.numbering.specs.Given.{ord, num, given, Room}
+use Rattle.numbering.specs.Given.{ord, num, given, numbered_rows}
 
 -- a mention of node y of g, by a variable or by an attribute of a node with a number below count
 abbrev pub MentionsNode : Graph → ℕ → (ℕ → ℕ) → ℕ → Mention → Type 0
@@ -25,20 +25,18 @@ pub record NumberedBefore (g : Graph) (m : Mention) (count : ℕ) (ord num : ℕ
 
 -- so far as m the rows are numbered, and those from number v on wait
 pub record Underway (g : Graph) (m : Mention) (v : ℕ) (n : Numbers) (waits : List ℕ) : Type 0 where
-  pub room : Room n
-  pub numbered : NumberedBefore g m n.count (ord n) (num n) (given n)
-  pub visited : v ≤ n.count
-  pub waiting : waits ≡ drop v (take n.count (vec_items n.order))
+  pub numbered : NumberedBefore g m (vec_len n.listed) (ord n) (num n) (given n)
+  pub visited : v ≤ vec_len n.listed
+  pub waiting : waits ≡ drop v (numbered_rows n)
 
 -- the graph of the numbered rows, by their numbers
 abbrev pub in_numbers : Graph → Numbers → Graph
-in_numbers g n = renumbered g n.count (ord n) (num n)
+in_numbers g n = renumbered g (vec_len n.listed) (ord n) (num n)
 
 -- all nodes that terms denote have numbers, breadth first and so in listing order, and each is kept with its first mention
 pub record Numbered (g : Graph) (n : Numbers) : Type 0 where
-  pub room : Room n
-  pub few : n.count ≤ g.nodes
-  pub numbering : Numbering g n.count (ord n) (num n)
+  pub few : vec_len n.listed ≤ g.nodes
+  pub numbering : Numbering g (vec_len n.listed) (ord n) (num n)
   pub breadth_first : BreadthFirst (in_numbers g n)
   pub in_order : InOrder (in_numbers g n)
-  pub first : (k : ℕ) → k < n.count → FirstMention (in_numbers g n) k (given n k)
+  pub first : (k : ℕ) → k < vec_len n.listed → FirstMention (in_numbers g n) k (given n k)

@@ -1,14 +1,13 @@
 // A table whose rows are in listing order.
-ghost use Rattle.std.specs.Prelude.{◌≡◌, ℕ, ◌<◌, vec_len};
+ghost use Rattle.std.specs.Prelude.{◌≡◌, ℕ, ◌<◌, ◌≤◌, vec_capacity, vec_len};
 ghost use Rattle.std.proofs.Math.Option.{some as leads_to, map};
 ghost use Rattle.features.specs.Graphs.{SameGraph};
 ghost use Rattle.tables.specs.Views.{edge_of, graph, Sound};
-ghost use Rattle.numbering.specs.Given.{Room, num};
+ghost use Rattle.numbering.specs.Given.{num};
 ghost use Rattle.numbering.specs.Frontier.{Numbered, in_numbers};
 ghost use Rattle.numbering.specs.Arranged.{Moved};
 
 use crate::numbers::Numbers;
-use tables::attributes::{lowest, without_lowest};
 use tables::node::Node;
 use tables::table::Table;
 
@@ -23,54 +22,49 @@ impl Numbers {
     {
         self.arrange_rows(from, into);
         self.arrange_roots(from, into);
-        into.used = self.count;
-        into.vars = from.vars;
     }
 
     // The rows.
     fn arrange_rows(&self, from: &Table, into: &mut Table)
         requires sound { Sound from.now }
-        requires room { vec_len into.old.rows ≡ 272 }
+        requires room { 272 ≤ vec_capacity into.old.rows }
         requires numbered { Numbered (graph from.now) self.now }
-        ensures moved { (k : ℕ) → k < self.now.count → Moved (graph from.now) self.now into.new k }
-        ensures room { vec_len into.new.rows ≡ 272 }
+        ensures moved { (k : ℕ) → k < vec_len self.now.listed → Moved (graph from.now) self.now into.new k }
+        ensures rows { vec_len into.new.rows ≡ vec_len self.now.listed }
+        ensures room { 272 ≤ vec_capacity into.new.rows }
         ensures roots { into.new.roots ≡ into.old.roots }
     {
-        for k in 0..self.count {
-            let node = self.by_numbers(&from.rows[self.order[k] as usize]);
-            into.rows[k] = node;
+        into.rows.clear();
+        for listed in &self.listed {
+            let node = self.by_numbers(&from.rows[listed.row as usize]);
+            into.rows.push_reserved(node);
         }
     }
 
     // The variables' rows.
     fn arrange_roots(&self, from: &Table, into: &mut Table)
         requires sound { Sound from.now }
-        requires room { vec_len into.old.roots ≡ 64 }
+        requires room { 64 ≤ vec_capacity into.old.roots }
         requires numbered { Numbered (graph from.now) self.now }
-        ensures moved { (x : ℕ) → x < from.now.vars → (graph into.new).root x ≡ (in_numbers (graph from.now) self.now).root x }
-        ensures room { vec_len into.new.roots ≡ 64 }
+        ensures moved { (x : ℕ) → x < vec_len from.now.roots → (graph into.new).root x ≡ (in_numbers (graph from.now) self.now).root x }
+        ensures roots { vec_len into.new.roots ≡ vec_len from.now.roots }
+        ensures room { 64 ≤ vec_capacity into.new.roots }
         ensures rows { into.new.rows ≡ into.old.rows }
     {
-        for x in 0..from.vars {
-            let number = self.number[from.roots[x] as usize];
-            into.roots[x] = number;
+        into.roots.clear();
+        for root in &from.roots {
+            into.roots.push_reserved(self.number[*root as usize]);
         }
     }
 
     // A node with its targets by their numbers.
     fn by_numbers(&self, node: &Node) -> Node
-        requires room { Room self.now }
-        requires inside { (a t : ℕ) → edge_of node.now a ≡ leads_to t → t < 272 }
+        requires { (a t : ℕ) → edge_of node.now a ≡ leads_to t → t < 272 }
         ensures value { result.value ≡ node.now.value }
         ensures edges { (a : ℕ) → edge_of result a ≡ map (num self.now) (edge_of node.now a) }
     {
-        let mut moved = Node::bare(node.value);
-        let mut left = node.present;
-        while let Some(attribute) = lowest(left) {
-            let number = self.number[node.targets[attribute as usize] as usize];
-            moved.lead(attribute, number);
-            left = without_lowest(left);
-        }
+        let mut moved = *node;
+        moved.redirect(&self.number);
         moved
     }
 }

@@ -2,6 +2,6 @@
 #[derive(Clone, Copy)]
 pub enum Mention {
     Variable(u16),
-    // the number of the node, and its attribute
-    Attribute(u16, u16),
+    // `giver` is the number of the node
+    Attribute { giver: u16, attribute: u16 },
 }

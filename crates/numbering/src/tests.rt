@@ -12,9 +12,9 @@ fn rows_are_numbered_breadth_first(rt: HostRuntime) -> Result<(), Fail> {
     let mut numbers = Numbers::new(rt.alloc())?;
     let mut waiting = [0; 272];
     numbers.number(&table, &mut waiting);
-    assert!(rt; numbers.count == 4);
-    assert_eq!(rt; numbers.order[2], near);
-    assert_eq!(rt; numbers.order[3], end);
+    assert_eq!(rt; numbers.listed.len(), 4);
+    assert_eq!(rt; numbers.listed[2].row, near);
+    assert_eq!(rt; numbers.listed[3].row, end);
     let mut path = [0; 272];
     assert_eq!(rt; numbers.trail(3, &mut path), (0, 2));
     assert_eq!(rt; path[0], 4);

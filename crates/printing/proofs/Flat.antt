@@ -1,16 +1,11 @@
 -- One text for each element of a list, put one after another.
-use Rattle.std.proofs.Common.{◌≡◌, ℕ, suc, ◌+◌, ◌<◌, ◌≤◌, min, List, [], ◌∷◌, ◌++◌, length, get_or, take, drop, decimal, sym, refl, ap, ◌∙◌, subst, inl, inr, append_assoc, append-nil, arith, length-append, take-append-drop, drop-cons}
+use Rattle.std.proofs.Common.{◌≡◌, ℕ, suc, ◌+◌, ◌<◌, ◌≤◌, List, [], ◌∷◌, ◌++◌, length, get_or, take, drop, decimal, sym, refl, ap, ◌∙◌, append_assoc, append-nil, arith, length-append, take-append-drop, drop-cons}
 use mathlib.Core.List.{flat_map}
-use Rattle.std.proofs.lemmas.List.{take_more, take_all}
-use Rattle.std.proofs.lemmas.Bool.{cases_lt}
-use Rattle.listings.specs.Buffers.{Placed}
-use Rattle.listings.proofs.Placing.{placed_append}
+use Rattle.std.proofs.lemmas.List.{take_more}
+use Rattle.buffers.specs.Writing.{Wrote}
+use Rattle.buffers.specs.declared.Writer.{Writer}
+use Rattle.buffers.proofs.Runs.{wrote_append, wrote_same}
 use Rattle.notation.specs.Notation.{point, written_path}
-
--- no more than there are
-pub take_capped : (xs : List ℕ) (n m : ℕ) → m ≡ min n (length xs) → take m xs ≡ take n xs
-take_capped xs n m e =
-    elim (cases_lt n (length xs)) [ inl h ↦ ap (λ (k : ℕ). take k xs) (omega arith) | inr h ↦ take_all m xs (omega arith) ∙ sym (take_all n xs (omega arith)) ]
 
 module _ (f : ℕ → List ℕ) where
   flat_append : (xs ys : List ℕ) → flat_map f (xs ++ ys) ≡ flat_map f xs ++ flat_map f ys
@@ -45,9 +40,8 @@ module _ (f : ℕ → List ℕ) where
         ∙ ap (λ (t : List ℕ). flat_map f (take i xs) ++ t) (flat_cons x (drop (suc i) xs))) in
         omega (arith, whole, length-append (flat_map f (take i xs)) (f x ++ rest), length-append (f x) rest)
 
-    pub placed_next : (at m n : ℕ) (x y z : List ℕ) → at ≤ length x → Placed at (flat_map f (take i xs)) x y m → Placed m (f (get_or xs i 0)) y z n → Placed at (flat_map f (take (i + 1) xs)) x z n
-    placed_next at m n x y z e p q =
-        subst (λ (bytes : List ℕ). Placed at bytes x z n) (sym flat_more) (placed_append at m n (flat_map f (take i xs)) (f (get_or xs i 0)) x y z e p q)
+    pub wrote_next : {x y z : Writer} → Wrote (flat_map f (take i xs)) x y → Wrote (f (get_or xs i 0)) y z → Wrote (flat_map f (take (i + 1) xs)) x z
+    wrote_next p q = wrote_same (sym flat_more) (wrote_append p q)
 
 abbrev pub attribute_text : ℕ → List ℕ
 attribute_text a = point ∷ decimal a

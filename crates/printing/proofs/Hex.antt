@@ -1,20 +1,16 @@
 -- Lines of hexadecimal digits.
-use Rattle.std.proofs.Common.{◌≡◌, ℕ, zero, suc, ◌+◌, ◌-◌, ◌*◌, ◌/◌, ◌%◌, ◌<◌, ◌≤◌, min, List, [], ◌∷◌, ◌++◌, length, take, drop, refl, ap, ◌∙◌, arith, length-append, length-drop, length-take}
+use Rattle.std.proofs.Common.{add-zero, sym, ap₂, append-nil, inl, inr, [], ◌∷◌, ◌≡◌, ℕ, zero, suc, ◌+◌, ◌-◌, ◌*◌, ◌<◌, ◌≤◌, min, List, [], ◌∷◌, ◌++◌, length, take, drop, refl, ap, ◌∙◌, arith, length-append, length-drop, length-take}
 use mathlib.Core.List.{flat_map}
-use Rattle.std.proofs.lemmas.List.{take_all}
+use Rattle.std.proofs.lemmas.List.{take_all, take_at, drop_at, drop-drop, nil_from_length}
+use Rattle.std.proofs.lemmas.Bool.{cases_lt}
 use Rattle.features.specs.Listing.{along}
 use Rattle.features.proofs.Bytes.{along_more}
-use Rattle.listings.proofs.Placing.{room_for_more}
-use Rattle.printing.proofs.Flat.{take_capped}
 use Rattle.printing.specs.Texts.{line_end, hex_byte, hex_line, lines_for, hexadecimal}
 
 pub length_hex : (bytes : List ℕ) → length (flat_map hex_byte bytes) ≡ 2 * length bytes
 unfolding flat_map
 length_hex [] = refl
 length_hex (b ∷ bytes) = omega (arith, length_hex bytes)
-
-pub ceiling : (n : ℕ) → n / 32 + min 1 (n % 32) ≡ lines_for n
-ceiling n = omega arith
 
 module _ (bytes : List ℕ) where
   length_line : (k : ℕ) → length (hex_line bytes k) ≡ 2 * min 32 (length bytes - 32 * k) + 1
@@ -37,32 +33,51 @@ module _ (bytes : List ℕ) where
   unfolding hexadecimal
   length_hexadecimal = omega (arith, length_lines (lines_for (length bytes)))
 
-  pub hexadecimal_whole : (k : ℕ) → k ≡ lines_for (length bytes) → along (hex_line bytes) 0 k ≡ hexadecimal bytes
-  unfolding hexadecimal
-  hexadecimal_whole k e = ap (along (hex_line bytes) 0) e
+pub hexadecimal_none : hexadecimal [] ≡ []
+unfolding hexadecimal
+hexadecimal_none = refl
 
-  pub line_room : (k : ℕ) → k < lines_for (length bytes) → length (along (hex_line bytes) 0 k) + length (hex_line bytes k) ≤ length (hexadecimal bytes)
-  unfolding hexadecimal
-  line_room k l = room_for_more (hex_line bytes) k (lines_for (length bytes)) l
+shifted : (f h : ℕ → List ℕ) (a b k : ℕ) → ((i : ℕ) → i < k → f (a + i) ≡ h (b + i)) → along f a k ≡ along h b k
+shifted f h a b zero e = refl
+shifted f h a b (suc k) e =
+    let first = sym (ap f (add-zero a)) ∙ e 0 (omega arith) ∙ ap h (add-zero b) in
+    let rest = shifted f h (suc a) (suc b) k (λ i l. ap f (omega arith) ∙ e (suc i) (omega arith) ∙ ap h (omega arith)) in
+    ap₂ (λ (s t : List ℕ). s ++ t) first rest
 
-  -- as a slice shows the bytes of a line
-  pub width_bytes : (k m : ℕ) → 32 * k < length bytes → m ≡ min (length (take (length bytes - 32 * k) (drop (32 * k) bytes))) 32 → take m (take (length bytes - 32 * k) (drop (32 * k) bytes)) ≡ take 32 (drop (32 * k) bytes)
-  width_bytes k m l e =
-      let rest : List ℕ = drop (32 * k) bytes in
-      let long = length-drop (32 * k) bytes in
-      let whole = take_all (length bytes - 32 * k) rest (omega arith) in
-      ap (take m) whole ∙ take_capped rest 32 m (omega (arith, ap length whole))
+-- the first bytes, as many as a line has, are a line, and the others have the other lines
+module _ (all line rest : List ℕ) (parts : all ≡ line ++ rest) (size : length line ≡ min 32 (length all)) (some : 0 < length all) where
+  sum : length all ≡ length line + length rest
+  sum = ap length parts ∙ length-append line rest
 
-  pub line_is : (k : ℕ) → flat_map hex_byte (take 32 (drop (32 * k) bytes)) ++ line_end ≡ hex_line bytes k
+  first_line : flat_map hex_byte line ++ line_end ≡ hex_line all 0
   unfolding hex_line
-  line_is k = refl
+  first_line =
+      let front : take 32 all ≡ line =
+      elim (cases_lt (length rest) 1) [
+        | inl none ↦
+            let last : rest ≡ [] = nil_from_length rest (omega (arith, sum)) in
+            take_all 32 all (omega (arith, sum, size)) ∙ parts ∙ ap (λ (t : List ℕ). line ++ t) last ∙ append-nil line
+        | inr more ↦ ap (take 32) parts ∙ take_at line rest 32 (omega (arith, sum, size))
+      ]
+      in
+      ap (λ (t : List ℕ). flat_map hex_byte t ++ line_end) (sym front)
 
-  pub length_line_is : (k : ℕ) → length (hex_line bytes k) ≡ length (flat_map hex_byte (take 32 (drop (32 * k) bytes))) + 1
+  other_line : (i : ℕ) → i < lines_for (length rest) → hex_line all (1 + i) ≡ hex_line rest (0 + i)
   unfolding hex_line
-  length_line_is k = length-append (flat_map hex_byte (take 32 (drop (32 * k) bytes))) line_end
+  other_line i l =
+      let whole : length line ≡ 32 = omega (arith, sum, size) in
+      let start : 32 * (1 + i) ≡ 32 + 32 * (0 + i) = omega arith in
+      let cut =
+      ap (λ (k : ℕ). drop k all) start ∙ sym (drop-drop (32 * (0 + i)) 32 all)
+      ∙ ap (drop (32 * (0 + i))) (ap (drop 32) parts ∙ drop_at line rest 32 whole) in
+      ap (λ (t : List ℕ). flat_map hex_byte (take 32 t) ++ line_end) cut
 
-pub line_starts : (n k : ℕ) → k < lines_for n → 32 * k < n
-line_starts n k l = omega arith
+  pub hexadecimal_first : (flat_map hex_byte line ++ line_end) ++ hexadecimal rest ≡ hexadecimal all
+  unfolding hexadecimal
+  hexadecimal_first =
+      let count : lines_for (length all) ≡ suc (lines_for (length rest)) = omega (arith, sum, size) in
+      ap₂ (λ (s t : List ℕ). s ++ t) first_line (sym (shifted (hex_line all) (hex_line rest) 1 0 (lines_for (length rest)) other_line))
+      ∙ sym (ap (along (hex_line all) 0) count)
 
 -- at most 27,016 bytes take at most 54,877
 pub hexadecimal_fits : (bytes : List ℕ) → length bytes ≤ 27016 → length (hexadecimal bytes) ≤ 54877

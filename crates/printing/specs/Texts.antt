@@ -1,5 +1,5 @@
 -- What is printed, byte by byte.
-use Rattle.std.specs.Prelude.{ℕ, ◌+◌, ◌*◌, ◌/◌, ◌%◌, true, false, List, [], ◌∷◌, ◌++◌, length, take, drop, Some, None, Ok, Err, codes, decimal, Result}
+use Rattle.std.specs.Prelude.{ℕ, ◌+◌, ◌*◌, ◌/◌, ◌%◌, Bool, true, false, List, [], ◌∷◌, ◌++◌, length, take, drop, Some, None, Ok, Err, codes, decimal, Result}
 use Rattle.std.proofs.Math.Option.{Option, some, none}
 use mathlib.Core.List.{flat_map}
 use Rattle.std.specs.Fmt.{digit_glyph}
@@ -47,9 +47,9 @@ term var path = record { var = var; path = path }
 
 -- what a refusal names, where a trail's attributes stand at the start of a list
 abbrev pub named : List ℕ → Refusal → List ℕ
-named trail (Undeclared side) = spaced (decimal side)
-named trail (LongTerm side) = spaced (decimal side)
-named trail (NoAttribute side position) = spaced (decimal side) ++ spaced (decimal position)
+named trail (Undeclared side) = spaced (decimal (refusals.side_number side))
+named trail (LongTerm side) = spaced (decimal (refusals.side_number side))
+named trail (NoAttribute side position) = spaced (decimal (refusals.side_number side)) ++ spaced (decimal position)
 named trail NoSuchValue = []
 named trail ShortTrail = []
 named trail ApartsFull = []
@@ -74,24 +74,36 @@ refusal_text trail r = refused_line (refusals.number r) (named trail r)
 abbrev pub malformed_text : Malformed → List ℕ
 malformed_text why = refused_line (reads.number why) (malformed_named why)
 
+-- a variable that was declared
+abbrev pub variable_text : ℕ → List ℕ
+variable_text n = codes "ok" ++ spaced (decimal n) ++ line_end
+
+-- a statement that was accepted
+abbrev pub accepted_text : Unit {0} → List ℕ
+accepted_text u = codes "ok" ++ line_end
+
+-- whether two terms denote one node
+abbrev pub sameness_text : Bool → List ℕ
+sameness_text true = codes "yes" ++ line_end
+sameness_text false = codes "no" ++ line_end
+
 -- a value, where there is one
 abbrev pub found_text : rust.Option ℕ → List ℕ
 found_text (Some v) = decimal v ++ line_end
 found_text None = codes "none" ++ line_end
 
+-- a result, by the text of what is no refusal
+abbrev pub answered_text : {T : Type 0} → (T → List ℕ) → List ℕ → Result T Refusal → List ℕ
+answered_text text trail (Ok x) = text x
+answered_text text trail (Err r) = refusal_text trail r
+
 -- what is printed of an answer
 abbrev pub answer_text : Answer → List ℕ
-answer_text (declares (Ok n)) = codes "ok" ++ spaced (decimal n) ++ line_end
-answer_text (declares (Err r)) = refusal_text [] r
-answer_text (states (Ok u) after) = codes "ok" ++ line_end
-answer_text (states (Err r) after) = refusal_text after r
-answer_text (says (Ok true)) = codes "yes" ++ line_end
-answer_text (says (Ok false)) = codes "no" ++ line_end
-answer_text (says (Err r)) = refusal_text [] r
-answer_text (gives (Ok found)) = found_text found
-answer_text (gives (Err r)) = refusal_text [] r
-answer_text (lists (Ok n) after) = hexadecimal (take n after)
-answer_text (lists (Err r) after) = refusal_text [] r
+answer_text (declares r) = answered_text variable_text [] r
+answer_text (states r after) = answered_text accepted_text after r
+answer_text (says r) = answered_text sameness_text [] r
+answer_text (gives r) = answered_text found_text [] r
+answer_text (lists r after) = answered_text (λ n. hexadecimal (take n after)) [] r
 
 -- the refusal that an answer is, where it is one
 abbrev pub error : {T : Type 0} → Result T Refusal → Option Refusal

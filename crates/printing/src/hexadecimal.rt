@@ -1,14 +1,15 @@
-// Bytes in hexadecimal. Each function answers the place after what it put.
-ghost use Rattle.std.specs.Prelude.{◌≡◌, ◌+◌, ◌*◌, ◌<◌, ◌≤◌, length};
+// Bytes in hexadecimal.
+ghost use Rattle.std.specs.Prelude.{◌≡◌, ◌<◌, ◌≤◌, ◌++◌, length};
 ghost use mathlib.Core.List.{flat_map};
-ghost use Rattle.listings.specs.Buffers.{Placed};
-ghost use Rattle.printing.specs.Texts.{hex_digit, hex_byte, hex_line, hexadecimal as lines_of};
+ghost use Rattle.buffers.specs.Writing.{room, Wrote};
+ghost use Rattle.printing.specs.Texts.{line_end, hex_digit, hex_byte, hexadecimal as lines_of};
 
-use listings::parts::put;
+use buffers::Writer;
 
 // How many bytes a line has, but for the last.
 const WIDTH: usize = 32;
 
+// By hand: `{:x}` and `hex::encode_to_slice` answer a Result, and there is nothing to do where it is an error.
 fn digit(n: u8) -> u8
     requires { n < 16 }
     ensures { result ≡ hex_digit n }
@@ -16,39 +17,28 @@ fn digit(n: u8) -> u8
     if n < 10 { b'0' + n } else { b'a' + (n - 10) }
 }
 
-fn put_byte(out: &mut [u8], at: usize, byte: u8) -> usize
-    requires { at + 2 ≤ length out.old }
-    ensures { Placed at (hex_byte byte) out.old out.new result }
+fn put_byte(writer: &mut Writer, byte: u8)
+    requires { length (hex_byte byte) ≤ room writer.old }
+    ensures { Wrote (hex_byte byte) writer.old writer.new }
 {
-    put(out, at, &[digit(byte / 16), digit(byte % 16)])
+    writer.put(&[digit(byte / 16), digit(byte % 16)]);
 }
 
-fn put_bytes(out: &mut [u8], mut at: usize, bytes: &[u8]) -> usize
-    requires { at + length (flat_map hex_byte bytes.now) ≤ length out.old }
-    ensures { Placed at (flat_map hex_byte bytes.now) out.old out.new result }
+fn put_line(writer: &mut Writer, bytes: &[u8])
+    requires { length (flat_map hex_byte bytes.now ++ line_end) ≤ room writer.old }
+    ensures { Wrote (flat_map hex_byte bytes.now ++ line_end) writer.old writer.new }
 {
     for byte in bytes {
-        at = put_byte(out, at, *byte);
+        put_byte(writer, *byte);
     }
-    at
+    writer.put(b"\n");
 }
 
-fn put_line(out: &mut [u8], at: usize, bytes: &[u8], k: usize) -> usize
-    requires starts { 32 * k < length bytes.now }
-    requires room { at + length (hex_line bytes.now k) ≤ length out.old }
-    ensures { Placed at (hex_line bytes.now k) out.old out.new result }
+pub(crate) fn put_hexadecimal(writer: &mut Writer, bytes: &[u8])
+    requires { length (lines_of bytes.now) ≤ room writer.old }
+    ensures { Wrote (lines_of bytes.now) writer.old writer.new }
 {
-    let rest = &bytes[WIDTH * k..];
-    let at = put_bytes(out, at, &rest[..rest.len().min(WIDTH)]);
-    put(out, at, b"\n")
-}
-
-pub fn put_hexadecimal(out: &mut [u8], mut at: usize, bytes: &[u8]) -> usize
-    requires { at + length (lines_of bytes.now) ≤ length out.old }
-    ensures { Placed at (lines_of bytes.now) out.old out.new result }
-{
-    for k in 0..bytes.len().div_ceil(WIDTH) {
-        at = put_line(out, at, bytes, k);
+    for line in bytes.chunks(WIDTH) {
+        put_line(writer, line);
     }
-    at
 }

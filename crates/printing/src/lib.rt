@@ -3,6 +3,7 @@
 
 pub mod answering;
 mod hexadecimal;
+pub mod line;
 mod numbers;
 pub mod outcome;
 pub mod refusals;

@@ -1,45 +1,51 @@
-// Numbers and terms. Each function answers the place after what it put.
-ghost use Rattle.std.specs.Prelude.{◌+◌, ◌≤◌, ◌∷◌, length, decimal};
-ghost use Rattle.listings.specs.Buffers.{Placed};
+// Numbers and terms.
+ghost use Rattle.std.specs.Prelude.{◌≤◌, ◌∷◌, length, decimal};
+ghost use Rattle.buffers.specs.Writing.{room, Wrote};
 ghost use Rattle.notation.specs.Notation.{point, written_path, written_term};
-ghost use Rattle.printing.specs.Texts.{term};
+ghost use Rattle.printing.specs.Texts.{spaced, term};
 
-use listings::parts::put;
+use buffers::Writer;
+use itoa::Buffer;
 
-pub fn put_decimal(out: &mut [u8], at: usize, n: u64) -> usize
-    requires { at + length (decimal n) ≤ length out.old }
-    ensures { Placed at (decimal n) out.old out.new result }
+pub(crate) fn put_decimal(writer: &mut Writer, n: u64)
+    requires { length (decimal n) ≤ room writer.old }
+    ensures { Wrote (decimal n) writer.old writer.new }
 {
-    if n < 10 {
-        return put(out, at, &[b'0' + n as u8]);
-    }
-    let at = put_decimal(out, at, n / 10);
-    put(out, at, &[b'0' + (n % 10) as u8])
+    let mut buffer = Buffer::new();
+    writer.put(buffer.format(n).as_bytes());
+}
+
+// A space and a number.
+pub(crate) fn put_spaced(writer: &mut Writer, n: u64)
+    requires { length (spaced (decimal n)) ≤ room writer.old }
+    ensures { Wrote (spaced (decimal n)) writer.old writer.new }
+{
+    writer.put(b" ");
+    put_decimal(writer, n);
 }
 
 // A point and an attribute.
-fn put_attribute(out: &mut [u8], at: usize, attribute: u16) -> usize
-    requires { at + length (point ∷ decimal attribute) ≤ length out.old }
-    ensures { Placed at (point ∷ decimal attribute) out.old out.new result }
+fn put_attribute(writer: &mut Writer, attribute: u16)
+    requires { length (point ∷ decimal attribute) ≤ room writer.old }
+    ensures { Wrote (point ∷ decimal attribute) writer.old writer.new }
 {
-    let at = put(out, at, b".");
-    put_decimal(out, at, attribute as u64)
+    writer.put(b".");
+    put_decimal(writer, attribute as u64);
 }
 
-fn put_path(out: &mut [u8], mut at: usize, path: &[u16]) -> usize
-    requires { at + length (written_path path.now) ≤ length out.old }
-    ensures { Placed at (written_path path.now) out.old out.new result }
+fn put_path(writer: &mut Writer, path: &[u16])
+    requires { length (written_path path.now) ≤ room writer.old }
+    ensures { Wrote (written_path path.now) writer.old writer.new }
 {
     for attribute in path {
-        at = put_attribute(out, at, *attribute);
+        put_attribute(writer, *attribute);
     }
-    at
 }
 
-pub fn put_term(out: &mut [u8], at: usize, var: u16, path: &[u16]) -> usize
-    requires { at + length (written_term (term var path.now)) ≤ length out.old }
-    ensures { Placed at (written_term (term var path.now)) out.old out.new result }
+pub(crate) fn put_term(writer: &mut Writer, var: u16, path: &[u16])
+    requires { length (written_term (term var path.now)) ≤ room writer.old }
+    ensures { Wrote (written_term (term var path.now)) writer.old writer.new }
 {
-    let at = put_decimal(out, at, var as u64);
-    put_path(out, at, path)
+    put_decimal(writer, var as u64);
+    put_path(writer, path);
 }

@@ -1,5 +1,6 @@
 // What comes of a line.
 ghost use Rattle.std.specs.Prelude.{◌≡◌};
+ghost use Rattle.printing.specs.Grounds.{number};
 ghost use Rattle.printing.specs.Outcomes.{size};
 
 use answers::refusal::Refusal;
@@ -10,6 +11,17 @@ use notation::malformed::Malformed;
 pub enum Ground {
     Call(Refusal),
     Line(Malformed),
+}
+
+impl Ground {
+    pub fn number(&self) -> u8
+        ensures { result ≡ number self.now }
+    {
+        match self {
+            Ground::Call(refusal) => refusal.number(),
+            Ground::Line(why) => why.number(),
+        }
+    }
 }
 
 // A refusal, and how many bytes were printed of it.

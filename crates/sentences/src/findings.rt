@@ -2,7 +2,7 @@
 use crate::failure::Failure;
 use crate::orders::Orders;
 use crate::verdict::Verdict;
-use manuals::manual::{Manual, Sentence};
+use manuals::context::Context;
 use std::alloc::Global;
 
 #[derive(Drop)]
@@ -13,10 +13,10 @@ pub struct Findings {
 }
 
 impl Findings {
-    pub fn of(heap: Global, manual: &Manual, sentence: &Sentence) -> Result<Findings, Failure> {
+    pub fn of(heap: Global, context: Context<'_>) -> Result<Findings, Failure> {
         Ok(Findings {
-            verdict: Verdict::of(heap, manual, sentence)?,
-            orders: Orders::of(heap, sentence)?,
+            verdict: Verdict::of(heap, context)?,
+            orders: Orders::of(heap, context.sentence)?,
         })
     }
 }

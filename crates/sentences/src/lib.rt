@@ -8,7 +8,6 @@ pub mod matrix;
 pub mod orders;
 pub mod outline;
 mod outlining;
-mod rearranging;
 pub mod report;
 mod stating;
 mod trying;

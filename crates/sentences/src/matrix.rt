@@ -1,7 +1,9 @@
 // A graph as attribute-value matrices, one for each word. Each pair of brackets holds the attributes of a node, one below the other; a node that is
 // reached in several ways has a number in brackets of its own, and stands in full only where it is reached first.
+ghost use Rattle.std.specs.Prelude.{◌≤◌};
+
 use crate::outline::{Edge, Mention, Node, Outline};
-use manuals::manual::{Manual, Sentence};
+use manuals::context::Context;
 use std::fmt;
 
 // No node is further from a word than this.
@@ -9,8 +11,7 @@ const DEEPEST: usize = 8;
 
 #[derive(Drop)]
 pub struct Matrix<'a> {
-    pub manual: &'a Manual,
-    pub sentence: &'a Sentence,
+    pub context: Context<'a>,
     pub outline: &'a Outline,
     // the column in which it begins
     pub margin: usize,
@@ -18,14 +19,15 @@ pub struct Matrix<'a> {
 
 impl fmt::Display for Matrix<'_> {
     fn fmt<W: fmt::Write>(&self, f: &mut fmt::Formatter<W>) -> fmt::Result {
+        let words = &self.context.sentence.words;
         let margin = self.margin;
-        let width = self.longest_word();
+        let width = words
+            .iter()
+            .map(|word| columns(word.as_str()))
+            .max()
+            .unwrap_or(0);
         let column = margin.saturating_add(width).saturating_add(2);
-        for (i, mention) in self.outline.words.iter().enumerate() {
-            let word = match u16::try_from(i) {
-                Ok(number) => self.sentence.words.name(number),
-                Err(_) => "?",
-            };
+        for (word, mention) in words.iter().zip(self.outline.words.iter()) {
             write!(f, "{:margin$}{word:width$}  ", "")?;
             self.write_mention(f, *mention, column, DEEPEST)?;
             writeln!(f, "")?;
@@ -35,20 +37,12 @@ impl fmt::Display for Matrix<'_> {
 }
 
 impl Matrix<'_> {
-    fn longest_word(&self) -> usize {
-        let mut most = 0;
-        for word in 0..self.sentence.words.count() {
-            most = most.max(self.sentence.words.name(word).chars().count());
-        }
-        most
-    }
-
     fn longest_attribute(&self, node: &Node) -> usize {
-        let mut most = 0;
-        for edge in node.edges.iter() {
-            most = most.max(self.manual.attributes.name(edge.attribute).chars().count());
-        }
-        most
+        node.edges
+            .iter()
+            .map(|edge| columns(self.context.attributes.name(edge.attribute)))
+            .max()
+            .unwrap_or(0)
     }
 
     // A node where it is mentioned: its number, and where it is mentioned first also its value, or brackets around its attributes.
@@ -59,24 +53,32 @@ impl Matrix<'_> {
         column: usize,
         depth: usize,
     ) -> fmt::Result {
-        let Some(node) = self.outline.nodes.get(mention.node) else {
+        let first = match mention {
+            Mention::First(first) => first,
+            Mention::Later(earlier) => {
+                return match self.outline.label(earlier).map(Label) {
+                    Some(label) => write!(f, "{label}"),
+                    None => Ok(()),
+                };
+            }
+        };
+        let Some(node) = self.outline.nodes.get(first) else {
             return Ok(());
         };
-        write_label(f, node.label, mention.first)?;
-        if !mention.first {
-            return Ok(());
+        let label = self.outline.label(first).map(Label);
+        if let Some(label) = label {
+            write!(f, "{label} ")?;
         }
-        if node.value != 0 {
-            let name = self.value_name(node.value);
+        if let Some(value) = node.value {
+            let name = self.context.values.name(value);
             return write!(f, "{name}");
         }
         if depth == 0 {
             return write!(f, "...");
         }
         let width = self.longest_attribute(node);
-        let inner = column
-            .saturating_add(label_width(node.label))
-            .saturating_add(2);
+        let before = label.map_or(0, |label| label.width() + 1);
+        let inner = column.saturating_add(before).saturating_add(2);
         let next = inner.saturating_add(width).saturating_add(1);
         write!(f, "[")?;
         for (i, edge) in node.edges.iter().enumerate() {
@@ -100,40 +102,36 @@ impl Matrix<'_> {
         } else {
             write!(f, "\n{:column$}", "")?;
         }
-        let name = self.manual.attributes.name(edge.attribute);
+        let name = self.context.attributes.name(edge.attribute);
         write!(f, "{name:width$} ")
     }
+}
 
-    fn value_name(&self, atom: u64) -> &str {
-        match u16::try_from(atom.saturating_sub(1)) {
-            Ok(number) => self.manual.values.name(number),
-            Err(_) => "?",
+// How many columns a name takes.
+fn columns(name: &str) -> usize {
+    name.chars().count()
+}
+
+// The boxed number of a node.
+#[derive(Clone, Copy)]
+struct Label(usize);
+
+impl Label {
+    // How many columns it takes: no graph has 1000 nodes.
+    fn width(self) -> usize
+        ensures { result ≤ 5 }
+    {
+        match self.0 {
+            0..=9 => 3,
+            10..=99 => 4,
+            _ => 5,
         }
     }
 }
 
-// The boxed number of a node that has one, with a space if the node follows.
-fn write_label<W: fmt::Write>(
-    f: &mut fmt::Formatter<W>,
-    label: usize,
-    followed: bool,
-) -> fmt::Result {
-    if label == 0 {
-        return Ok(());
-    }
-    write!(f, "[{label}]")?;
-    if followed {
-        write!(f, " ")?;
-    }
-    Ok(())
-}
-
-// How many columns a boxed number takes, with the space after it.
-fn label_width(label: usize) -> usize {
-    match label {
-        0 => 0,
-        1..=9 => 4,
-        10..=99 => 5,
-        _ => 6,
+impl fmt::Display for Label {
+    fn fmt<W: fmt::Write>(&self, f: &mut fmt::Formatter<W>) -> fmt::Result {
+        let number = self.0;
+        write!(f, "[{number}]")
     }
 }

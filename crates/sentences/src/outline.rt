@@ -1,9 +1,12 @@
 // A graph as it is drawn: each node once, and its number wherever else it is mentioned.
+ghost use Rattle.std.specs.Prelude.{◌≡◌, ◌+◌, MatchOption, take, count_by, slice_get, if◌then◌else◌};
+
 use manuals::place::Place;
 
+// Nodes are named by their places, as one is mentioned in several ways, and may be reached from itself.
 #[derive(Drop)]
 pub struct Outline {
-    // for each word its node
+    // for each word its node; the words' names belong to the manual
     pub words: Vec<Mention>,
     pub nodes: Vec<Node>,
 }
@@ -12,11 +15,11 @@ pub struct Outline {
 pub struct Node {
     // the first term that denotes it
     pub trail: Place,
-    // 0 where nothing is known of it, and else an atom
-    pub value: u64,
+    // the number of its value, where it has one
+    pub value: Option<u16>,
     pub edges: Vec<Edge>,
-    // its boxed number, where it is mentioned more than once, and else 0
-    pub label: usize,
+    // it is mentioned more than once
+    pub shared: bool,
 }
 
 #[derive(Clone, Copy)]
@@ -25,10 +28,26 @@ pub struct Edge {
     pub target: Mention,
 }
 
-// A node, by its place, where it is mentioned.
+// A node where it is mentioned.
 #[derive(Clone, Copy)]
-pub struct Mention {
-    pub node: usize,
-    // here for the first time
-    pub first: bool,
+pub enum Mention {
+    First(usize),
+    Later(usize),
+}
+
+impl Outline {
+    // The boxed number of a node that is mentioned more than once: such nodes are counted from 1.
+    pub fn label(&self, node: usize) -> Option<usize>
+        ensures { MatchOption (slice_get self.now.nodes.items node) (result ≡ None) (λ n. result ≡ (if n.shared then Some (count_by (λ m. m.shared) (take (node + 1) self.now.nodes.items)) else None)) }
+    {
+        if !self.nodes.get(node)?.shared {
+            return None;
+        }
+        Some(
+            self.nodes[..=node]
+                .iter()
+                .filter(|node| node.shared)
+                .count(),
+        )
+    }
 }

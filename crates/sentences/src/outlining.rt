@@ -1,95 +1,61 @@
 // The graph of a session, found by questions.
-use crate::clashing::extended;
 use crate::failure::Failure;
 use crate::outline::{Edge, Mention, Node, Outline};
-use crate::stating::term;
-use kinds::atoms::Atoms;
+use crate::stating::{Branch, Stating};
+use manuals::context::Context;
 use manuals::place::Place;
-use session::session::{NODES, Session};
-use std::alloc::Global;
+use session::session::NODES;
 
 impl Outline {
     // The nodes of the words, then those of their attributes, and so on.
-    pub fn of(
-        heap: Global,
-        session: &Session<Atoms>,
-        words: u16,
-        attributes: u16,
-    ) -> Result<Outline, Failure> {
+    pub(crate) fn of(stating: &Stating, context: Context<'_>) -> Result<Outline, Failure> {
         let mut outline = Outline {
-            words: Vec::new(heap),
-            nodes: Vec::new(heap),
+            words: Vec::new(stating.heap),
+            nodes: Vec::new(stating.heap),
         };
-        for word in 0..words {
-            let path = Vec::new(heap);
-            let mention = outline.mention(heap, session, Place { word, path })?;
+        for word in 0..context.sentence.words.count() {
+            let mention = outline.mention(stating, Place::of(stating.heap, word))?;
             outline.words.push(mention)?;
         }
+        // a loop to the most nodes that a session has, as no clause says that new ones run out
         for i in 0..NODES {
-            outline.expand(heap, session, attributes, i)?;
+            let Some(node) = outline.nodes.get(i) else {
+                break;
+            };
+            let branches = stating.branches(&node.trail, context.attributes.count())?;
+            let edges = outline.edges(stating, branches)?;
+            if let Some(node) = outline.nodes.get_mut(i) {
+                node.edges = edges;
+            }
         }
-        outline.number();
         Ok(outline)
     }
 
     // The node of a term that denotes one: an earlier one, or else a new one.
-    fn mention(
-        &mut self,
-        heap: Global,
-        session: &Session<Atoms>,
-        place: Place,
-    ) -> Result<Mention, Failure> {
+    fn mention(&mut self, stating: &Stating, place: Place) -> Result<Mention, Failure> {
         for (i, node) in self.nodes.iter_mut().enumerate() {
-            if session.same(term(&node.trail), term(&place))? {
-                node.label = 1;
-                return Ok(Mention {
-                    node: i,
-                    first: false,
-                });
+            if stating.same(&node.trail, &place)? {
+                node.shared = true;
+                return Ok(Mention::Later(i));
             }
         }
-        let node = self.nodes.len();
-        let value = session.value(term(&place))?.unwrap_or(0);
+        let value = stating.value(&place)?;
         self.nodes.push(Node {
             trail: place,
             value,
-            edges: Vec::new(heap),
-            label: 0,
+            edges: Vec::new(stating.heap),
+            shared: false,
         })?;
-        Ok(Mention { node, first: true })
+        Ok(Mention::First(self.nodes.len() - 1))
     }
 
-    // Finds the attributes of a node.
-    fn expand(
-        &mut self,
-        heap: Global,
-        session: &Session<Atoms>,
-        attributes: u16,
-        node: usize,
-    ) -> Result<(), Failure> {
-        for attribute in 0..attributes {
-            let Some(source) = self.nodes.get(node) else {
-                return Ok(());
-            };
-            let place = extended(heap, &source.trail, attribute)?;
-            if session.value(term(&place))?.is_some() {
-                let target = self.mention(heap, session, place)?;
-                if let Some(source) = self.nodes.get_mut(node) {
-                    source.edges.push(Edge { attribute, target })?;
-                }
-            }
+    // What the branches of a node lead to.
+    fn edges(&mut self, stating: &Stating, branches: Vec<Branch>) -> Result<Vec<Edge>, Failure> {
+        let mut edges = Vec::new(stating.heap);
+        for Branch { attribute, place } in branches {
+            let target = self.mention(stating, place)?;
+            edges.push(Edge { attribute, target })?;
         }
-        Ok(())
-    }
-
-    // Numbers the nodes that are mentioned more than once.
-    fn number(&mut self) {
-        let mut last: usize = 0;
-        for node in self.nodes.iter_mut() {
-            if node.label != 0 {
-                last = last.saturating_add(1);
-                node.label = last;
-            }
-        }
+        Ok(edges)
     }
 }

@@ -1,4 +1,12 @@
 // The equations of a sentence, told to a session.
+ghost use Rattle.std.specs.Prelude.{◌≡◌, ◌+◌, IfSome};
+ghost use Rattle.kinds.specs.Atoms.{atoms};
+ghost use Rattle.answers.specs.Answers.{ask_same, says};
+ghost use Rattle.answers.specs.Runs.{Step, asked};
+ghost use Rattle.features.specs.Terms.{equals};
+ghost use Rattle.session.specs.Sessions.{graph, kept};
+ghost use Rattle.sentences.specs.Statements.{term_of, statement_of, shape_of, Told};
+
 use crate::failure::Failure;
 use answers::refusal::Refusal;
 use kinds::atoms::Atoms;
@@ -9,9 +17,124 @@ use session::session::Session;
 use std::alloc::Global;
 
 // As many entries as a trail buffer has to have.
-pub const TRAIL: usize = 272;
+const TRAIL: usize = 272;
 
-pub fn term(place: &Place) -> Term<'_> {
+// The bytes of the longest listing.
+const LONGEST: usize = 27_016;
+
+// A session that is told equations over declared words.
+#[derive(Drop)]
+pub struct Stating {
+    pub heap: Global,
+    session: Session<Atoms>,
+    // where the session writes the trail of a node at fault
+    trail: [u16; TRAIL],
+}
+
+// A term that is one attribute longer than that of a node, and the attribute.
+#[derive(Drop)]
+pub struct Branch {
+    pub attribute: u16,
+    pub place: Place,
+}
+
+impl Stating {
+    // So many words are declared, and nothing is said.
+    pub fn open(heap: Global, words: u16) -> Result<Stating, Failure> {
+        let mut session = Session::open(heap, Atoms)?;
+        for _ in 0..words {
+            session.declare()?;
+        }
+        Ok(Stating {
+            heap,
+            session,
+            trail: [0; TRAIL],
+        })
+    }
+
+    // States an equation.
+    pub fn state(&mut self, equation: &Equation) -> Result<(), Refusal>
+        ensures { Told self.old (statement_of equation.now) result self.new }
+    {
+        match equation {
+            Equation::Equal(left, right) => self.equate(left, right),
+            Equation::Valued(place, value) => {
+                let value = atom(*value);
+                self.session.is(term(place), value, &mut self.trail)
+            }
+        }
+    }
+
+    // States of an equation only which nodes there are and which are one, and no value.
+    pub fn state_shape(&mut self, equation: &Equation) -> Result<(), Refusal>
+        ensures { Told self.old (shape_of equation.now) result self.new }
+    {
+        match equation {
+            Equation::Equal(left, right) => self.equate(left, right),
+            Equation::Valued(place, _) => self.equate(place, place),
+        }
+    }
+
+    fn equate(&mut self, left: &Place, right: &Place) -> Result<(), Refusal>
+        ensures { Told self.old (equals (term_of left.now) (term_of right.now)) result self.new }
+    {
+        self.session
+            .equals(term(left), term(right), &mut self.trail)
+    }
+
+    // The trail of the node that the last refusal names, if it is a clash; other refusals are failures.
+    pub fn trail(&self, refusal: Refusal) -> Result<Place, Failure> {
+        let (Refusal::ValueClash(word, count) | Refusal::LeafClash(word, count)) = refusal else {
+            return Err(Failure::Session(refusal));
+        };
+        let path = self
+            .trail
+            .iter()
+            .take(usize::from(count))
+            .copied()
+            .collect(self.heap)?;
+        Ok(Place { word, path })
+    }
+
+    // Do both terms denote one node?
+    pub fn same(&self, left: &Place, right: &Place) -> Result<bool, Refusal>
+        ensures { Step graph kept atoms self.now.session (asked (ask_same (term_of left.now) (term_of right.now)) (says result)) self.now.session }
+    {
+        self.session.same(term(left), term(right))
+    }
+
+    // The number of the value that the node of a term has, where it has one.
+    pub fn value(&self, place: &Place) -> Result<Option<u16>, Refusal> {
+        let atom = self.session.value(term(place))?;
+        Ok(atom.and_then(value_of))
+    }
+
+    // The attributes below the given count that the node of a term has, each with its term. The question can fail, so no `find` or `filter`.
+    pub fn branches(&self, place: &Place, attributes: u16) -> Result<Vec<Branch>, Failure> {
+        let mut branches = Vec::new(self.heap);
+        for attribute in 0..attributes {
+            let place = place.extended(attribute)?;
+            if self.session.value(term(&place))?.is_some() {
+                branches.push(Branch { attribute, place })?;
+            }
+        }
+        Ok(branches)
+    }
+
+    // The graph as its listing.
+    pub fn listing(&mut self) -> Result<Vec<u8>, Failure> {
+        let mut bytes = vec![in self.heap; 0u8; LONGEST]?;
+        let used = self.session.list(bytes.as_mut_slice())?;
+        bytes.truncate(used);
+        Ok(bytes)
+    }
+}
+
+// No `From` can say this, as both types are of other crates.
+fn term(place: &Place) -> Term<'_>
+    ensures var { result.var ≡ place.now.word }
+    ensures path { result.path.now ≡ place.now.path.items }
+{
     Term {
         var: place.word,
         path: place.path.as_slice(),
@@ -19,39 +142,15 @@ pub fn term(place: &Place) -> Term<'_> {
 }
 
 // The atom of a value's number: 0 is the top, so atoms begin with 1.
-pub fn atom(value: u16) -> u64 {
-    value as u64 + 1
+fn atom(value: u16) -> u64
+    ensures { result ≡ value + 1 }
+{
+    u64::from(value) + 1
 }
 
-// A session in which so many words are declared and nothing is said.
-pub fn open(heap: Global, words: u16) -> Result<Session<Atoms>, Failure> {
-    let mut session = Session::open(heap, Atoms)?;
-    for _ in 0..words {
-        let _ = session.declare()?;
-    }
-    Ok(session)
-}
-
-// States an equation.
-pub fn state(
-    session: &mut Session<Atoms>,
-    equation: &Equation,
-    trail: &mut [u16],
-) -> Result<(), Refusal> {
-    match equation {
-        Equation::Equal(p, q) => session.equals(term(p), term(q), trail),
-        Equation::Valued(p, value) => session.is(term(p), atom(*value), trail),
-    }
-}
-
-// States of an equation only which nodes there are and which are one, and no value.
-pub fn state_shape(
-    session: &mut Session<Atoms>,
-    equation: &Equation,
-    trail: &mut [u16],
-) -> Result<(), Refusal> {
-    match equation {
-        Equation::Equal(p, q) => session.equals(term(p), term(q), trail),
-        Equation::Valued(p, _) => session.equals(term(p), term(p), trail),
-    }
+// The number of the value that an atom stands for, and none for the top.
+fn value_of(atom: u64) -> Option<u16>
+    ensures { IfSome result (λ value. atom ≡ value + 1) }
+{
+    u16::try_from(atom.checked_sub(1)?).ok()
 }

@@ -1,74 +1,71 @@
 // The equations of a sentence in every order.
+ghost use Rattle.std.specs.Prelude.{◌≤◌, ◌↔◌, vec_len, IsSome, IfOk};
+
 use crate::failure::Failure;
 use crate::orders::{MOST, Orders};
-use crate::rearranging::{advance, rising};
-use crate::stating::{TRAIL, open, state};
+use crate::stating::Stating;
+use answers::refusal::Refusal;
+use itertools::Itertools;
+use manuals::equation::Equation;
 use manuals::manual::Sentence;
 use std::alloc::Global;
 
-// The bytes of the longest listing.
-const LONGEST: usize = 27_016;
-
-// More than there are orders of as many equations.
-const TURNS: usize = 1000;
-
 impl Orders {
     // Tries every order, where the equations are not too many.
-    pub fn of(heap: Global, sentence: &Sentence) -> Result<Option<Orders>, Failure> {
-        if sentence.equations.len() > MOST {
+    pub fn of(heap: Global, sentence: &Sentence) -> Result<Option<Orders>, Failure>
+        ensures tried { IfOk result (λ found. IsSome found ↔ (vec_len sentence.now.equations ≤ MOST)) }
+    {
+        let count = sentence.equations.len();
+        if count > MOST {
             return Ok(None);
         }
-        let mut orders = Orders {
-            tried: 0,
-            accepted: 0,
-            same: 0,
+        let mut tally = Tally {
+            orders: Orders::default(),
+            first: None,
         };
-        let mut order = rising(heap, sentence.equations.len())?;
-        let mut first = Vec::new(heap);
-        for _ in 0..TURNS {
-            let graph = listing(heap, sentence, order.as_slice())?;
-            orders.count(&mut first, graph);
-            if !advance(order.as_mut_slice()) {
-                break;
-            }
+        for order in sentence.equations.iter().permutations(heap, count)? {
+            let mut stating = Stating::open(heap, sentence.words.count())?;
+            tally.count(graph(&mut stating, order?.as_slice())?);
         }
-        Ok(Some(orders))
-    }
-
-    // Counts an order, with its graph if it was accepted; the first graph is kept.
-    fn count(&mut self, first: &mut Vec<u8>, graph: Option<Vec<u8>>) {
-        self.tried = self.tried.saturating_add(1);
-        let Some(graph) = graph else {
-            return;
-        };
-        if self.accepted == 0 {
-            *first = graph;
-            self.accepted = 1;
-            self.same = 1;
-            return;
-        }
-        self.accepted = self.accepted.saturating_add(1);
-        if graph == *first {
-            self.same = self.same.saturating_add(1);
-        }
+        Ok(Some(tally.orders))
     }
 }
 
-// The graph of the equations in an order, as its listing, or none where one of them clashes.
-fn listing(heap: Global, sentence: &Sentence, order: &[usize]) -> Result<Option<Vec<u8>>, Failure> {
-    let mut session = open(heap, sentence.words.count())?;
-    let mut trail = [0u16; TRAIL];
-    for i in order {
-        if let Some(equation) = sentence.equations.get(*i) {
-            match state(&mut session, equation, &mut trail) {
-                Ok(()) => {}
-                Err(refusal) if refusal.is_clash() => return Ok(None),
-                Err(refusal) => return Err(Failure::Session(refusal)),
-            }
+// What came of the orders so far.
+#[derive(Drop)]
+struct Tally {
+    orders: Orders,
+    // the graph of the first that was accepted
+    first: Option<Vec<u8>>,
+}
+
+impl Tally {
+    // Counts an order, with its graph if it was accepted.
+    fn count(&mut self, graph: Option<Vec<u8>>) {
+        self.orders.tried = self.orders.tried.saturating_add(1);
+        let Some(graph) = graph else {
+            return;
+        };
+        self.orders.accepted = self.orders.accepted.saturating_add(1);
+        if self.first.as_ref().is_none_or(|first| graph == *first) {
+            self.orders.same = self.orders.same.saturating_add(1);
         }
+        self.first.get_or_insert(graph);
     }
-    let mut bytes = vec![in heap; 0u8; LONGEST]?;
-    let used = session.list(bytes.as_mut_slice())?;
-    bytes.truncate(used);
-    Ok(Some(bytes))
+}
+
+// The graph of equations in their order, as its listing, or none where one of them clashes.
+fn graph(stating: &mut Stating, order: &[&Equation]) -> Result<Option<Vec<u8>>, Failure> {
+    match state_all(stating, order) {
+        Ok(()) => Ok(Some(stating.listing()?)),
+        Err(refusal) if refusal.is_clash() => Ok(None),
+        Err(refusal) => Err(Failure::Session(refusal)),
+    }
+}
+
+// States equations, up to the first that is refused.
+fn state_all(stating: &mut Stating, order: &[&Equation]) -> Result<(), Refusal> {
+    order
+        .iter()
+        .try_for_each(|equation| stating.state(equation))
 }

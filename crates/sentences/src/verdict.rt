@@ -2,12 +2,13 @@
 use crate::clashing::explain;
 use crate::failure::Failure;
 use crate::outline::Outline;
-use crate::stating::{TRAIL, open, state};
-use answers::refusal::Refusal;
-use manuals::manual::{Manual, Sentence};
+use crate::stating::Stating;
+use manuals::context::Context;
 use manuals::place::Place;
 use std::alloc::Global;
+use std::fmt;
 
+// A clash is a finding, and no failure to find out; so this is no `Result`, whose error would be one.
 #[derive(Drop)]
 pub enum Verdict {
     // all equations hold of this graph
@@ -15,62 +16,55 @@ pub enum Verdict {
     Clashes(Clash),
 }
 
-// A clash: the equation that was refused, by its place, the first node at fault, and why no value is right for it.
+// A clash: the equation that was refused, the first node at fault, and why no value is right for it, where that is known.
 #[derive(Drop)]
 pub struct Clash {
-    pub equation: usize,
+    pub equation: Position,
     pub trail: Place,
-    pub ground: Ground,
+    pub ground: Option<Ground>,
 }
 
-// Equations are named by their places.
 #[derive(Clone, Copy)]
 pub enum Ground {
-    // the two equations give the node two values
-    TwoValues(usize, usize),
-    // the equation gives a value to a node that has this attribute
-    ValueAndAttribute(usize, u16),
-    // nothing more is known
-    Unknown,
+    // two equations give the node two values
+    TwoValues(Giving, Giving),
+    // an equation gives a value to a node that has this attribute
+    ValueAndAttribute(Giving, u16),
+}
+
+// An equation and the value that it gives.
+#[derive(Clone, Copy)]
+pub struct Giving {
+    pub equation: Position,
+    pub value: u16,
+}
+
+// The place of an equation in its sentence. It is printed counted from 1.
+#[derive(Clone, Copy)]
+pub struct Position(pub usize);
+
+impl fmt::Display for Position {
+    fn fmt<W: fmt::Write>(&self, f: &mut fmt::Formatter<W>) -> fmt::Result {
+        self.0.saturating_add(1).fmt(f)
+    }
 }
 
 impl Verdict {
     // States the equations of a sentence in their order, up to the first that clashes.
-    pub fn of(heap: Global, manual: &Manual, sentence: &Sentence) -> Result<Verdict, Failure> {
-        let mut session = open(heap, sentence.words.count())?;
-        let mut trail = [0u16; TRAIL];
-        for (i, equation) in sentence.equations.iter().enumerate() {
-            match state(&mut session, equation, &mut trail) {
-                Ok(()) => {}
-                Err(refusal) => {
-                    let trail = trail_of(heap, refusal, &trail)?;
-                    let ground = explain(heap, manual, sentence, i, &trail)?;
-                    return Ok(Verdict::Clashes(Clash {
-                        equation: i,
-                        trail,
-                        ground,
-                    }));
-                }
+    pub fn of(heap: Global, context: Context<'_>) -> Result<Verdict, Failure> {
+        let equations = context.sentence.equations.as_slice();
+        let mut stating = Stating::open(heap, context.sentence.words.count())?;
+        for (i, equation) in equations.iter().enumerate() {
+            if let Err(refusal) = stating.state(equation) {
+                let trail = stating.trail(refusal)?;
+                let ground = explain(heap, context, &equations[..=i], &trail)?;
+                return Ok(Verdict::Clashes(Clash {
+                    equation: Position(i),
+                    trail,
+                    ground,
+                }));
             }
         }
-        let outline = Outline::of(
-            heap,
-            &session,
-            sentence.words.count(),
-            manual.attributes.count(),
-        )?;
-        Ok(Verdict::Agrees(outline))
+        Ok(Verdict::Agrees(Outline::of(&stating, context)?))
     }
-}
-
-// The trail of the node that a clash names; other refusals are failures.
-fn trail_of(heap: Global, refusal: Refusal, trail: &[u16]) -> Result<Place, Failure> {
-    let (Refusal::ValueClash(word, count) | Refusal::LeafClash(word, count)) = refusal else {
-        return Err(Failure::Session(refusal));
-    };
-    let mut path = Vec::new(heap);
-    for attribute in trail.iter().take(count as usize) {
-        path.push(*attribute)?;
-    }
-    Ok(Place { word, path })
 }

@@ -1,5 +1,5 @@
 -- A closed graph judged: which clash it shows first, or that there is none.
-use Rattle.std.proofs.Common.{◌≡◌, ℕ, ◌<◌, ◌≤◌, Bool, true, false, cond, List, length, get_or, Ok, Err, vec_items, Result, sym, refl, ap, ◌∙◌, subst, arith}
+use Rattle.std.proofs.Common.{◌≡◌, ℕ, ◌<◌, ◌≤◌, Bool, true, false, cond, List, length, get_or, Ok, Err, vec_items, Result, sym, refl, ap, ◌∙◌, subst, arith, vec_len}
 use mathlib.Core.Option.{Option, some, none}
 use Rattle.kinds.specs.Meaning.{Meaning, Lawful}
 use Rattle.features.specs.Terms.{Statement}
@@ -56,7 +56,7 @@ module _ (m : Meaning) (lawful : Lawful m) (c : Closer) (arranged : Arranged c) 
   next_stands : Stands m (graph c.next) (closed_state c) vars said
   next_stands = same_shape_stands m (closed_graph c) (graph c.next) (closed_state c) (closed_state c) vars said next_shape (λ n lt. refl) ready.stands
 
-  module _ (valued : (k : ℕ) → k < c.numbers.count → closed_state c k ≡ none → ⊥) where
+  module _ (valued : (k : ℕ) → k < vec_len c.numbers.listed → closed_state c k ≡ none → ⊥) where
     every_node_valued : EveryNodeValued m vars said
     every_node_valued = (names_no_value m (closed_graph c) (closed_state c) vars said arranged.numbered.in_order ready.stands).1 valued
 
@@ -65,7 +65,7 @@ module _ (m : Meaning) (lawful : Lawful m) (c : Closer) (arranged : Arranged c) 
     next_holds =
         standing_holds m (graph c.next) (closed_state c) kept vars said next_stands
         (λ k lt.
-        let inside : k < c.numbers.count = omega (arith, lt, arranged.same.nodes) in
+        let inside : k < vec_len c.numbers.listed = omega (arith, lt, arranged.same.nodes) in
         value_there (get_or (vec_items c.work.void) (ord c.numbers k) false) ((closed_graph c).value k) (valued k inside) ∙ ap some (sym (arranged.same.values k lt)))
         ready.proper ready.aparts
 
@@ -76,7 +76,7 @@ module _ (m : Meaning) (lawful : Lawful m) (c : Closer) (arranged : Arranged c) 
         (leaf_branches (record { var = var; path = w.path }) every_node_valued
         ((names_leaf_branches m (closed_graph c) (closed_state c) vars said lawful arranged.numbered.in_order ready.stands).0 k (record { var = var; path = w.path }) leaf first w.trail))
 
-    module _ (bare : (k : ℕ) → k < c.numbers.count → LeafAt m (closed_graph c) (closed_state c) k → ⊥) where
+    module _ (bare : (k : ℕ) → k < vec_len c.numbers.listed → LeafAt m (closed_graph c) (closed_state c) k → ⊥) where
       every_leaf_bare : EveryLeafBare m vars said
       every_leaf_bare = (names_leaf_branches m (closed_graph c) (closed_state c) vars said lawful arranged.numbered.in_order ready.stands).1 bare
 
@@ -94,15 +94,15 @@ module _ (m : Meaning) (lawful : Lawful m) (c : Closer) (arranged : Arranged c) 
         no_clash : NoClash m vars said
         no_clash = record { valued = every_node_valued; leaves_bare = every_leaf_bare; aparts_kept = λ i b. whole i (broken_on_one i b) }
 
-        pub values_stand : (k : ℕ) → k < c.numbers.count → closed_state c k ≡ some ((closed_graph c).value k)
+        pub values_stand : (k : ℕ) → k < vec_len c.numbers.listed → closed_state c k ≡ some ((closed_graph c).value k)
         values_stand k lt =
             value_there (get_or (vec_items c.work.void) (ord c.numbers k) false) ((closed_graph c).value k) (valued k lt)
 
         closed_holds : Holds m (closed_graph c) (aparts_of said) vars said
         closed_holds = standing_holds m (closed_graph c) (closed_state c) (aparts_of said) vars said ready.stands values_stand ready.proper refl
 
-        pub nodes_full : 256 < c.numbers.count → Closed m vars said before (Err NodesFull) before
+        pub nodes_full : 256 < vec_len c.numbers.listed → Closed m vars said before (Err NodesFull) before
         nodes_full many = too_many no_clash (closed_graph c, closed_holds, many)
 
-        pub taken : c.numbers.count ≤ 256 → Closed m vars said before (Ok tt) before
+        pub taken : vec_len c.numbers.listed ≤ 256 → Closed m vars said before (Ok tt) before
         taken few = accepted no_clash (closed_graph c, closed_holds, few)

@@ -7,6 +7,7 @@ use Rattle.kinds.specs.Meaning.{Meaning}
 use Rattle.features.specs.Terms.{Term, Statement}
 use Rattle.features.specs.Graphs.{Graph, Denotes}
 use Rattle.growth.specs.Joins.{OneNode}
+use Rattle.answers.specs.declared.refusal.Side.{Side}
 use Rattle.answers.specs.declared.refusal.Refusal.{Refusal}
 use Rattle.answers.specs.Answers.{pair_fault, term_fault, Same, one, not_one, Value, valued, nothing, same, value, ask_same, says, ask_value, gives}
 use Rattle.answers.specs.Runs.{asked, Has, Step}
@@ -33,14 +34,14 @@ module _ {S : Type 0} (graph : S → Graph) (kept : S → List Statement) (m : M
         not_one (subst (λ (n : ℕ). pair_fault n p q ≡ none) has.holds.all e) (λ j. d (has.holds.joined p q j)))
 
   module _ (p : Term) where
-    pub value_refused : (r : Refusal) → term_fault (graph s).vars 0 p ≡ some r → Step graph kept m s (asked (ask_value p) (gives (Err r))) s
-    value_refused r e = value_asked p (Err r) (λ vars said has. Value.faulty (subst (λ (n : ℕ). term_fault n 0 p ≡ some r) has.holds.all e))
+    pub value_refused : (r : Refusal) → term_fault (graph s).vars Side.Left p ≡ some r → Step graph kept m s (asked (ask_value p) (gives (Err r))) s
+    value_refused r e = value_asked p (Err r) (λ vars said has. Value.faulty (subst (λ (n : ℕ). term_fault n Side.Left p ≡ some r) has.holds.all e))
 
-    module _ (free : term_fault (graph s).vars 0 p ≡ none) where
+    module _ (free : term_fault (graph s).vars Side.Left p ≡ none) where
       pub value_found : (n : ℕ) → Denotes (graph s) p n → Step graph kept m s (asked (ask_value p) (gives (Ok (rust_option.Some ((graph s).value n))))) s
       value_found n d = value_asked p (Ok (rust_option.Some ((graph s).value n))) (λ vars said has.
-          valued ((graph s).value n) (subst (λ (n : ℕ). term_fault n 0 p ≡ none) has.holds.all free) (has.holds.nothing_else p p n d d) (has.holds.values p n d))
+          valued ((graph s).value n) (subst (λ (n : ℕ). term_fault n Side.Left p ≡ none) has.holds.all free) (has.holds.nothing_else p p n d d) (has.holds.values p n d))
 
       pub value_absent : ((n : ℕ) → Denotes (graph s) p n → ⊥) → Step graph kept m s (asked (ask_value p) (gives (Ok rust_option.None))) s
       value_absent never = value_asked p (Ok rust_option.None) (λ vars said has.
-          nothing (subst (λ (n : ℕ). term_fault n 0 p ≡ none) has.holds.all free) (λ j. let d = has.holds.joined p p j in never d.0 d.1))
+          nothing (subst (λ (n : ℕ). term_fault n Side.Left p ≡ none) has.holds.all free) (λ j. let d = has.holds.joined p p j in never d.0 d.1))

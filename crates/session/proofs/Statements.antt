@@ -12,6 +12,7 @@ use Rattle.growth.proofs.Declaring.{empty_stands}
 use Rattle.growth.proofs.Holding.{holding_stands, standing_holds}
 use Rattle.closing.specs.declared.closer.Closer.{Closer}
 use Rattle.closing.specs.Closings.{Arranged, closed_graph, closed_state}
+use Rattle.answers.specs.declared.refusal.Side.{Side}
 use Rattle.answers.specs.declared.refusal.Refusal.{Refusal}
 use Rattle.answers.specs.declared.refusal.Refusal.TheVariants.{NoSuchValue, ShortTrail}
 use Rattle.answers.specs.Answers.{first_refusal, pair_fault, term_fault, value_fault, fault, Closed, Stated, faultless, stated, state, states}
@@ -34,7 +35,7 @@ module _ (m : Meaning) (vars : ℕ) (said : List Statement) (room : ℕ) where
   pub equation_terms : (p q : Term) (o : Option Refusal) → pair_fault vars p q ≡ o → fault m vars said (equals p q) room ≡ past_terms (equals p q) o
   equation_terms p q o e = ap (past_terms (equals p q)) e
 
-  pub value_terms : (p : Term) (v : ℕ) (o : Option Refusal) → term_fault vars 0 p ≡ o → fault m vars said (is p v) room ≡ past_terms (is p v) o
+  pub value_terms : (p : Term) (v : ℕ) (o : Option Refusal) → term_fault vars Side.Left p ≡ o → fault m vars said (is p v) room ≡ past_terms (is p v) o
   value_terms p v o e = ap (past_terms (is p v)) e
 
   pub short_trail : room < 272 → first_refusal (cond (ltb room 272) (some ShortTrail) none) none ≡ some ShortTrail
@@ -44,11 +45,11 @@ module _ (m : Meaning) (vars : ℕ) (said : List Statement) (room : ℕ) where
   long_trail l = ap (λ (b : Bool). first_refusal (cond b (some ShortTrail) none) none) (le-ltb room 272 l)
 
   -- and of a value
-  pub no_value_there : (p : Term) (v : ℕ) → term_fault vars 0 p ≡ none → m.value v ≡ false → fault m vars said (is p v) room ≡ some NoSuchValue
+  pub no_value_there : (p : Term) (v : ℕ) → term_fault vars Side.Left p ≡ none → m.value v ≡ false → fault m vars said (is p v) room ≡ some NoSuchValue
   no_value_there p v e f =
       value_terms p v none e ∙ ap (λ (b : Bool). first_refusal (cond b none (some NoSuchValue)) (first_refusal (cond (ltb room 272) (some ShortTrail) none) none)) f
 
-  pub value_there : (p : Term) (v : ℕ) (o : Option Refusal) → term_fault vars 0 p ≡ none → m.value v ≡ true → first_refusal (cond (ltb room 272) (some ShortTrail) none) none ≡ o → fault m vars said (is p v) room ≡ o
+  pub value_there : (p : Term) (v : ℕ) (o : Option Refusal) → term_fault vars Side.Left p ≡ none → m.value v ≡ true → first_refusal (cond (ltb room 272) (some ShortTrail) none) none ≡ o → fault m vars said (is p v) room ≡ o
   value_there p v o e f t =
       value_terms p v none e ∙ ap (λ (b : Bool). first_refusal (cond b none (some NoSuchValue)) (first_refusal (cond (ltb room 272) (some ShortTrail) none) none)) f ∙ t
 

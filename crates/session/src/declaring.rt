@@ -15,10 +15,10 @@ impl<K: Kind> Session<K> {
         ensures step { Step graph kept (K.meaning self.old.kind) self.old (asked declare (declares result)) self.new }
         ensures kind { self.new.kind ≡ self.old.kind }
     {
-        if self.table.vars >= VARIABLES {
+        if self.table.roots.len() >= VARIABLES {
             return Err(Refusal::VariablesFull);
         }
-        if self.table.used >= NODES {
+        if self.table.rows.len() >= NODES {
             return Err(Refusal::NodesFull);
         }
         let top = self.kind.top();

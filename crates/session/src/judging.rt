@@ -1,5 +1,5 @@
 // What a closed graph shows.
-ghost use Rattle.std.specs.Prelude.{◌≡◌, ℕ, ◌<◌, ◌≤◌, List, length, OnOk, ◌≢◌};
+ghost use Rattle.std.specs.Prelude.{◌≡◌, ℕ, ◌<◌, ◌≤◌, List, length, OnOk, ◌≢◌, vec_len};
 ghost use Rattle.std.proofs.Math.Option.{none as contradiction};
 ghost use Rattle.features.specs.Terms.{Statement};
 ghost use Rattle.answers.specs.Answers.{Closed};
@@ -18,7 +18,7 @@ impl<K: Kind> Session<K> {
         requires arranged { Arranged self.now.closer }
         requires space { 272 ≤ length trail.old }
         ensures closed { (vars : ℕ) (said : List Statement) → Ready (K.meaning self.now.kind) (kept self.now) self.now.closer vars said → Closed (K.meaning self.now.kind) vars said trail.old result trail.new }
-        ensures fits { OnOk result ((self.now.closer.next.used ≤ 256) × ((k : ℕ) → k < self.now.closer.numbers.count → closed_state self.now.closer k ≢ contradiction)) }
+        ensures fits { OnOk result ((vec_len self.now.closer.next.rows ≤ 256) × ((k : ℕ) → k < vec_len self.now.closer.numbers.listed → closed_state self.now.closer k ≢ contradiction)) }
     {
         if let Some(k) = self.closer.first_void() {
             let (variable, count) = self.closer.numbers.trail(k as usize, trail);
@@ -31,7 +31,7 @@ impl<K: Kind> Session<K> {
         if let Some(place) = self.first_broken(&self.closer.next) {
             return Err(Refusal::ApartClash(place));
         }
-        if self.closer.next.used > NODES {
+        if self.closer.next.rows.len() > NODES {
             return Err(Refusal::NodesFull);
         }
         Ok(())

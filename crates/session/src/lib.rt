@@ -4,7 +4,6 @@
 mod asking;
 mod checks;
 mod declaring;
-mod held;
 mod judging;
 mod listing;
 mod nodes;

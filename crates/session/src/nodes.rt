@@ -1,9 +1,9 @@
 // The nodes that terms denote in a table's graph.
-ghost use Rattle.std.specs.Prelude.{ℕ, ◌<◌, MatchBool, MatchOption};
+ghost use Rattle.std.specs.Prelude.{ℕ, ◌<◌, MatchBool, MatchOption, vec_len};
 ghost use Rattle.features.specs.Graphs.{Denotes};
 ghost use Rattle.growth.specs.Joins.{OneNode};
 ghost use Rattle.tables.specs.Views.{graph, Sound};
-ghost use Rattle.session.specs.Parts.{term_of};
+ghost use Rattle.terms.specs.Terms.{term_of};
 
 use crate::parts::Term;
 use tables::table::Table;
@@ -11,12 +11,10 @@ use tables::table::Table;
 // The node of a term, if there is one; a variable that is not declared has none.
 pub fn node_of(table: &Table, p: Term<'_>) -> Option<u16>
     requires { Sound table.now }
-    ensures { MatchOption result ((n : ℕ) → Denotes (graph table.now) (term_of p.entry) n → ⊥) (λ n. Denotes (graph table.now) (term_of p.entry) n × (n < table.now.used)) }
+    ensures { MatchOption result ((n : ℕ) → Denotes (graph table.now) (term_of p.entry) n → ⊥) (λ n. Denotes (graph table.now) (term_of p.entry) n × (n < vec_len table.now.rows)) }
 {
-    if p.var as usize >= table.vars {
-        return None;
-    }
-    table.find(table.roots[p.var as usize], p.path)
+    let root = table.roots.get(usize::from(p.var))?;
+    table.find(*root, p.path)
 }
 
 // Do both terms denote one node?

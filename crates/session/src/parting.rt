@@ -5,7 +5,7 @@ ghost use Rattle.tables.specs.Views.{graph as graph_of, Sound};
 ghost use Rattle.features.specs.Terms.{apart as two_nodes};
 ghost use Rattle.answers.specs.Answers.{state, states};
 ghost use Rattle.answers.specs.Runs.{Step, asked};
-ghost use Rattle.session.specs.Parts.{term_of};
+ghost use Rattle.terms.specs.Terms.{term_of};
 ghost use Rattle.session.specs.Sessions.{graph, kept};
 
 use crate::checks::check_pair;
@@ -23,7 +23,7 @@ impl<K: Kind> Session<K> {
         ensures step { Step graph kept (K.meaning self.old.kind) self.old (asked (state (two_nodes (term_of p.entry) (term_of q.entry)) trail.old) (states result trail.new)) self.new }
         ensures kind { self.new.kind ≡ self.old.kind }
     {
-        check_pair(p, q, self.table.vars)?;
+        check_pair(p, q, &self.table)?;
         if trail.len() < CAPACITY {
             return Err(Refusal::ShortTrail);
         }

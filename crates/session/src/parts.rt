@@ -1,22 +1,15 @@
 // Terms as callers give them, and as a session keeps those of its aparts.
-ghost use Rattle.std.specs.Prelude.{◌≤◌};
-
-pub use closing::term::Term;
+use terms::KeptTerm;
+pub use terms::Term;
 
 // As many attributes as a term of an accepted call can have.
 pub const LONGEST: usize = 8;
 
-// A term of at most 8 attributes, kept: the first `count` entries of `path` are its attributes.
-#[derive(Clone, Copy)]
-pub struct Held {
-    pub var: u16,
-    pub count: u16,
-    pub path: [u16; 8],
-    ghost short: { count ≤ 8 },
-}
+// A term of an accepted call, kept.
+pub type Held = KeptTerm<LONGEST>;
 
 // Two terms that are to denote two nodes, or at least one of them nothing.
-#[derive(Clone, Copy)]
+#[derive(Drop)]
 pub struct Apart {
     pub left: Held,
     pub right: Held,

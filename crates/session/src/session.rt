@@ -22,7 +22,7 @@ pub struct Session<K: Kind> {
     // memory in which a statement is closed
     pub(crate) closer: Closer,
     ghost sound: { ∥ Sound table ∥₁ },
-    ghost nodes: { table.used ≤ 256 },
+    ghost nodes: { vec_len table.rows ≤ 256 },
     ghost few: { vec_len aparts ≤ 128 },
     ghost room: { 128 ≤ vec_capacity aparts },
 }

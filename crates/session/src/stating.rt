@@ -3,13 +3,13 @@ ghost use Rattle.std.specs.Prelude.{◌≡◌};
 ghost use Rattle.features.specs.Terms.{equals as one_node, is as value_is};
 ghost use Rattle.answers.specs.Answers.{state, states};
 ghost use Rattle.answers.specs.Runs.{Step, asked};
-ghost use Rattle.session.specs.Parts.{term_of};
+ghost use Rattle.terms.specs.Terms.{term_of};
 ghost use Rattle.session.specs.Sessions.{graph, kept};
 
 use crate::checks::{check, check_pair};
 use crate::parts::Term;
 use crate::session::Session;
-use answers::refusal::Refusal;
+use answers::refusal::{Refusal, Side};
 use kinds::kind::Kind;
 use tables::storage::CAPACITY;
 
@@ -19,7 +19,7 @@ impl<K: Kind> Session<K> {
         ensures step { Step graph kept (K.meaning self.old.kind) self.old (asked (state (one_node (term_of p.entry) (term_of q.entry)) trail.old) (states result trail.new)) self.new }
         ensures kind { self.new.kind ≡ self.old.kind }
     {
-        check_pair(p, q, self.table.vars)?;
+        check_pair(p, q, &self.table)?;
         if trail.len() < CAPACITY {
             return Err(Refusal::ShortTrail);
         }
@@ -34,7 +34,7 @@ impl<K: Kind> Session<K> {
         ensures step { Step graph kept (K.meaning self.old.kind) self.old (asked (state (value_is (term_of p.entry) value) trail.old) (states result trail.new)) self.new }
         ensures kind { self.new.kind ≡ self.old.kind }
     {
-        check(p, self.table.vars, 0)?;
+        check(p, &self.table, Side::Left)?;
         if !self.kind.is_value(value) {
             return Err(Refusal::NoSuchValue);
         }

@@ -10,69 +10,63 @@ use std::io::{BufWriter, Read, Stdin, Stdout, Write};
 // As many bytes as are read at once.
 const CHUNK: usize = 65536;
 
-// Prints the answer to a line.
-fn answer(
-    responder: &mut Responder,
-    line: &[u8],
-    page: &mut [u8],
-    output: &mut BufWriter<Stdout>,
-) -> io::Result<()> {
-    let outcome = responder.respond(line, page);
-    output.write_all(&page[..printed(&outcome)])
+// What answers lines, the line that is being read, the page on which an answer is printed, and where it goes.
+#[derive(Drop)]
+struct Program {
+    responder: Responder,
+    line: LineBuffer,
+    page: Vec<u8>,
+    output: BufWriter<Stdout>,
 }
 
-// Answers each line that ends among the bytes; `line` has what was read of the next one.
-fn answer_all(
-    responder: &mut Responder,
-    bytes: &[u8],
-    line: &mut LineBuffer,
-    page: &mut [u8],
-    output: &mut BufWriter<Stdout>,
-) -> io::Result<()> {
-    for byte in bytes {
-        if *byte == b'\n' {
-            answer(responder, line.line(), page, output)?;
-            line.clear();
-        } else {
-            line.add(*byte);
-        }
+impl Program {
+    // All memory for lines and answers is taken here.
+    fn open(rt: &HostRuntime) -> io::Result<Program> {
+        Ok(Program {
+            responder: Responder::open(rt.alloc())?,
+            line: LineBuffer::new(),
+            page: vec![in rt.alloc(); 0; ROOM]?,
+            output: BufWriter::new(rt.alloc(), rt.stdout())?,
+        })
     }
-    Ok(())
-}
 
-// Answers all lines of the input; the last needs no line end.
-fn run(
-    responder: &mut Responder,
-    input: &mut Stdin,
-    chunk: &mut [u8],
-    page: &mut [u8],
-    output: &mut BufWriter<Stdout>,
-) -> io::Result<()> {
-    let mut line = LineBuffer::new();
-    for _ in 0..u64::MAX {
-        let count = input.read(chunk)?;
-        if count == 0 {
-            break;
+    // Prints the answer to the line, and begins the next.
+    fn answer(&mut self) -> io::Result<()> {
+        let outcome = self.responder.respond(self.line.line(), &mut self.page);
+        self.line.clear();
+        self.output.write_all(&self.page[..printed(&outcome)])
+    }
+
+    // Answers each line that ends among the bytes.
+    fn answer_all(&mut self, bytes: &[u8]) -> io::Result<()> {
+        for byte in bytes {
+            if *byte == b'\n' {
+                self.answer()?;
+            } else {
+                self.line.add(*byte);
+            }
         }
-        answer_all(responder, &chunk[..count], &mut line, page, output)?;
+        Ok(())
     }
-    if line.line().is_empty() {
-        return Ok(());
+
+    // Answers all lines of the input; the last needs no line end.
+    fn run(&mut self, input: &mut Stdin, chunk: &mut [u8]) -> io::Result<()> {
+        for _ in 0..u64::MAX {
+            let count = input.read(chunk)?;
+            if count == 0 {
+                break;
+            }
+            self.answer_all(&chunk[..count])?;
+        }
+        if !self.line.line().is_empty() {
+            self.answer()?;
+        }
+        self.output.flush()
     }
-    answer(responder, line.line(), page, output)
 }
 
 fn main(rt: HostRuntime) -> io::Result<()> {
-    let mut responder = Responder::open(rt.alloc())?;
+    let mut program = Program::open(&rt)?;
     let mut chunk = vec![in rt.alloc(); 0; CHUNK]?;
-    let mut page = vec![in rt.alloc(); 0; ROOM]?;
-    let mut output = BufWriter::new(rt.alloc(), rt.stdout())?;
-    run(
-        &mut responder,
-        &mut rt.stdin(),
-        chunk.as_mut_slice(),
-        page.as_mut_slice(),
-        &mut output,
-    )?;
-    output.flush()
+    program.run(&mut rt.stdin(), &mut chunk)
 }

@@ -2,7 +2,7 @@
 use Rattle.std.proofs.Common.{◌≡◌, ℕ, ◌*◌, ◌/◌, ◌%◌, ◌^◌, ◌<◌, Bool, true, false, cond, ◌&&◌, ◌||◌, eqb, ltb, List, length, get_or, set, refl, ap, ◌∙◌, arith, get_or-set_other, get_or-set_same, lt-ltb}
 use mathlib.Core.Option.{some, none}
 use lib.Bits.{bit_and, bit_or}
-use Rattle.std.proofs.lemmas.Bool.{both_ways}
+use Rattle.std.proofs.lemmas.Bool.{both_ways, and_from}
 use Rattle.std.proofs.lemmas.Nat.{one_shl, and_mask}
 use Rattle.kinds.specs.Masks.{has}
 use Rattle.kinds.specs.BitSets.{has_or, has_one, power_alone}
@@ -61,3 +61,10 @@ present r a e = ap (λ (x : Bool). cond x (some (get_or r.targets a 0)) none) e
 pub and_false : (b : Bool) → (b && false) ≡ false
 and_false true = refl
 and_false false = refl
+
+pub not_present : (node : Node) (c : ℕ) → has node.present c ≡ false → edge_of node c ≡ none
+not_present node c e = absent node c (ap (λ (b : Bool). ltb c 32 && b) e ∙ and_false (ltb c 32))
+
+-- an attribute that a node has leads somewhere
+pub shown_edge : (node : Node) (c : ℕ) → c < 32 → has node.present c ≡ true → edge_of node c ≡ some (get_or node.targets c 0)
+shown_edge node c l e = present node c (and_from _ _ (lt-ltb c 32 l) e)

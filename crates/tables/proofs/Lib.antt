@@ -4,3 +4,4 @@ pub mod Walking
 pub mod Extended
 pub mod Copies
 pub mod Known
+pub mod Redirected

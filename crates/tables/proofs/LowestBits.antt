@@ -1,11 +1,11 @@
 -- The lowest bit of a number, what is left without it, and the count of bits.
-use Rattle.std.proofs.Common.{◌≡◌, ℕ, zero, suc, ◌+◌, ◌-◌, ◌/◌, ◌%◌, ◌^◌, ◌<◌, min, Bool, true, false, cond, ◌&&◌, eqb, ltb, ◌⊎◌, get_or, sym, refl, ap, ◌∙◌, ap₂, inl, inr, add-zero, pow-suc, zero-add, arith}
+use Rattle.std.proofs.Common.{◌≡◌, ℕ, zero, suc, ◌+◌, ◌-◌, ◌/◌, ◌%◌, ◌^◌, ◌<◌, ◌≤◌, min, Bool, true, false, cond, ◌&&◌, eqb, ltb, ◌⊎◌, get_or, sym, refl, ap, ◌∙◌, ap₂, inl, inr, Some, None, add-zero, pow-suc, zero-add, arith}
 use mathlib.Core.Option.{some, none}
 use lib.Bits.{bit_and, and_step, and_self, and_le_r}
 use lib.Count.{count_trailing_zeros, under, ones, ones_step, ones-le}
 use Rattle.std.proofs.lemmas.Bool.{both_ways, cases_order, and_left, and_right, eqb-true, eqb-false, cases_Bool, lt-ltb}
-use Rattle.kinds.specs.Masks.{has}
-use Rattle.kinds.specs.BitSets.{has_and, has_none, has_zero, has_suc, lowest_set, none_lower}
+use Rattle.kinds.specs.Masks.{has, LowestBit}
+use Rattle.kinds.specs.BitSets.{has_and, has_none, has_zero, has_suc, has_past, lowest_set}
 use Rattle.features.specs.Listing.{count, one_if}
 use Rattle.tables.specs.declared.node.Node.{Node}
 use Rattle.tables.specs.Views.{edge_of}
@@ -21,11 +21,6 @@ trailing_below (suc k) a p h = let q = pow-suc 2 k in go (a % 2) refl (λ r. tra
     go zero e rest = let l = rest (omega arith) in omega arith
     go (suc r) e rest = omega arith
 
-pub lowest_is : (a : ℕ) → 0 < a → a < 2 ^ 32 → Lowest a (count_trailing_zeros 32 a)
-lowest_is a p h =
-    let l = trailing_below 32 a p h in
-    record { positive = p; below = l; present = lowest_set 32 a l; none_lower = λ b. none_lower 32 a b }
-
 odd_digit : (a : ℕ) → has a 0 ≡ true → a % 2 ≡ 1
 odd_digit a h = eqb-true (a % 2) 1 (sym (has_zero a) ∙ h)
 
@@ -35,6 +30,27 @@ even_digit a h = let n = eqb-false (a % 2) 1 (sym (has_zero a) ∙ h) in omega a
 pub has_positive : (a t : ℕ) → has a t ≡ true → 0 < a
 has_positive zero t h = absurd (both_ways (has 0 t) (has_none t) h)
 has_positive (suc a) t h = omega arith
+
+-- the lowest bit of a number of 32 bits, as an attribute
+pub lowest_is : (a t : ℕ) → a < 2 ^ 32 → LowestBit a (Some t) → Lowest a t
+lowest_is a t h (s, p, least) = record { positive = has_positive a t p; below = below (cases_order t 32); present = p; none_lower = λ b l. none_at b l (cases_Bool (has a b)) }
+  where
+    past : 32 ≤ t → ⊥
+    past l = both_ways (has a t) (has_past a 32 t h l) p
+
+    below : (t ≡ 32) ⊎ ((t < 32) ⊎ (32 < t)) → t < 32
+    below (inl e) = absurd (past (omega arith))
+    below (inr (inl l)) = l
+    below (inr (inr l)) = absurd (past (omega arith))
+
+    none_at : (b : ℕ) → b < t → (has a b ≡ true) ⊎ (has a b ≡ false) → has a b ≡ false
+    none_at b l (inl e) = let m = least b e in absurd (omega arith)
+    none_at b l (inr e) = e
+
+-- a number without a bit is 0
+pub without_bits : (a : ℕ) → a < 2 ^ 32 → LowestBit a None → a ≡ 0
+without_bits zero h lacks = refl
+without_bits (suc a) h lacks = absurd (lacks (count_trailing_zeros 32 (suc a)) (lowest_set 32 (suc a) (trailing_below 32 (suc a) (omega arith) h)))
 
 -- the bits of half a number, where its lowest bit stands above its last digit
 module _ (t a : ℕ) (h : has a (suc t) ≡ true) (n : (b : ℕ) → b < suc t → has a b ≡ false) where
@@ -91,13 +107,20 @@ ones_fall (suc t) a h n =
     let r = ones_fall t (a / 2) (half_set t a h n) (half_none t a h n) in
     omega arith
 
+-- a bit that two numbers share is one of the first
+pub shared_bit : (a b t : ℕ) → has (bit_and a b) t ≡ true → has a t ≡ true
+shared_bit a b t e = first (has a t) (has b t) (sym (has_and a b t) ∙ e)
+  where
+    first : (x y : Bool) → (x && y) ≡ true → x ≡ true
+    first true y h = refl
+    first false y h = h
+
 -- the lowest bit taken away
-pub without_is : (a : ℕ) → 0 < a → a < 2 ^ 32 → WithoutLowest a (bit_and a (a - 1))
-without_is a p h =
-    let l = lowest_is a p h in
+pub without_is : (a t : ℕ) → Lowest a t → WithoutLowest a (bit_and a (a - 1))
+without_is a t l =
     record {
-      smaller = omega (arith, and_le_r a (a - 1));
-      fewer = ones_fall (count_trailing_zeros 32 a) a l.present l.none_lower;
+      smaller = omega (arith, l.positive, and_le_r a (a - 1));
+      fewer = ones_fall t a l.present l.none_lower;
       gone = λ t w. has_and a (a - 1) t ∙ and_right (has a t) (has (a - 1) t) (pred_gone t a w.present w.none_lower);
       others = λ t b w n. others t b w (cases_order b t) n;
     }

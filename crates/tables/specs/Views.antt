@@ -1,5 +1,5 @@
 -- The graph that rows show.
-use Rattle.std.specs.Prelude.{◌≡◌, ℕ, ◌<◌, ◌≤◌, cond, ◌&&◌, List, [], vec_items, vec_len, nat_lt, slice_index, slice_index_or}
+use Rattle.std.specs.Prelude.{◌≡◌, ℕ, ◌<◌, ◌≤◌, cond, ◌&&◌, List, [], vec_items, vec_len, vec_capacity, nat_lt, slice_index, slice_index_or}
 use Rattle.std.proofs.Math.Option.{Option, some, none}
 use Rattle.kinds.specs.Masks.{has}
 use Rattle.features.specs.Graphs.{Graph}
@@ -17,24 +17,24 @@ row rows n = slice_index_or rows n blank
 abbrev pub edge_of : Node → ℕ → Option ℕ
 edge_of r a = cond (nat_lt a 32 && has r.present a) (some (slice_index r.targets a)) none
 
--- the graph of a table: its rows in use, and the variables' nodes
+-- the graph of a table: its rows, and the variables' nodes
 abbrev pub graph : Table → Graph
 graph t = record {
-  nodes = t.used;
+  nodes = vec_len t.rows;
   value = λ n. (row (vec_items t.rows) n).value;
   edge = λ n a. edge_of (row (vec_items t.rows) n) a;
-  vars = t.vars;
+  vars = vec_len t.roots;
   root = λ x. slice_index (vec_items t.roots) x;
 }
 
--- the table has all its rows and roots, and every attribute and every variable leads to a row in use
+-- the table has room for all the rows and roots that it can come to have, and every attribute and every variable leads to a row
 pub record Sound (t : Table) : Type 0 where
-  pub rows : vec_len t.rows ≡ 272
-  pub used : t.used ≤ 272
-  pub roots : vec_len t.roots ≡ 64
-  pub vars : t.vars ≤ 64
-  pub edges_inside : (n a k : ℕ) → n < t.used → (graph t).edge n a ≡ some k → k < t.used
-  pub roots_inside : (x : ℕ) → x < t.vars → (graph t).root x < t.used
+  pub rows : vec_len t.rows ≤ 272
+  pub row_room : 272 ≤ vec_capacity t.rows
+  pub roots : vec_len t.roots ≤ 64
+  pub root_room : 64 ≤ vec_capacity t.roots
+  pub edges_inside : (n a k : ℕ) → n < vec_len t.rows → (graph t).edge n a ≡ some k → k < vec_len t.rows
+  pub roots_inside : (x : ℕ) → x < vec_len t.roots → (graph t).root x < vec_len t.rows
 
 -- what stands on the nodes of a table that has no contradiction
 abbrev pub values : Table → ℕ → Option ℕ

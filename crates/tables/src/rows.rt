@@ -1,9 +1,10 @@
 // What one row answers, and how it changes.
-ghost use Rattle.std.specs.Prelude.{◌≡◌, ℕ, ◌<◌, MatchOption, ◌≢◌};
-ghost use Rattle.std.proofs.Math.Option.{some as leads_to, none as leads_nowhere};
+ghost use Rattle.std.specs.Prelude.{◌≡◌, ℕ, ◌<◌, MatchOption, ◌≢◌, length, slice_index};
+ghost use Rattle.std.proofs.Math.Option.{some as leads_to, none as leads_nowhere, map as mapped};
 ghost use Rattle.tables.specs.Views.{edge_of};
 
 use crate::node::Node;
+use kinds::masks::has_bit;
 
 impl Node {
     // A node with a value and no attribute.
@@ -22,7 +23,7 @@ impl Node {
     pub fn target(&self, attribute: u16) -> Option<u16>
         ensures { MatchOption result (edge_of self.now attribute ≡ leads_nowhere) (λ t. edge_of self.now attribute ≡ leads_to t) }
     {
-        if attribute < 32 && (self.present >> attribute) & 1 == 1 {
+        if attribute < 32 && has_bit(u64::from(self.present), u64::from(attribute)) {
             Some(self.targets[attribute as usize])
         } else {
             None
@@ -36,7 +37,19 @@ impl Node {
         ensures leads { edge_of self.new attribute ≡ leads_to target }
         ensures others { (a : ℕ) → (a ≢ attribute) → edge_of self.new a ≡ edge_of self.old a }
     {
-        self.present = self.present | (1 << attribute);
+        self.present |= 1 << attribute;
         self.targets[attribute as usize] = target;
+    }
+
+    // From now on each attribute leads to what stands at the place of its target.
+    pub fn redirect(&mut self, to: &[u16])
+        requires { (a k : ℕ) → edge_of self.old a ≡ leads_to k → k < length to.now }
+        ensures value { self.new.value ≡ self.old.value }
+        ensures edges { (a : ℕ) → edge_of self.new a ≡ mapped (λ x. slice_index to.now x) (edge_of self.old a) }
+    {
+        let node = *self;
+        for (attribute, target) in node.edges() {
+            self.lead(attribute, to[target as usize]);
+        }
     }
 }

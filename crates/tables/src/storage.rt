@@ -19,23 +19,18 @@ pub const VARIABLES: usize = 64;
 impl Table {
     // A table with all its memory, and neither a node nor a variable.
     pub fn new(heap: Global) -> Result<Table, AllocError>
-        ensures { IfOk result (λ t. Sound t × (t.used ≡ 0) × (t.vars ≡ 0)) }
+        ensures { IfOk result (λ t. Sound t × (vec_len t.rows ≡ 0) × (vec_len t.roots ≡ 0)) }
     {
-        let rows = vec![in heap; Node::bare(0); CAPACITY]?;
-        let roots = vec![in heap; 0; VARIABLES]?;
-        Ok(Table {
-            rows,
-            used: 0,
-            roots,
-            vars: 0,
-        })
+        let rows = Vec::with_capacity(heap, CAPACITY)?;
+        let roots = Vec::with_capacity(heap, VARIABLES)?;
+        Ok(Table { rows, roots })
     }
 
     // One row, lent to change its value or its targets.
     pub fn row(&mut self, i: usize) -> &mut Node
         requires { i < vec_len self.old.rows }
         ensures read { result.now ≡ row_of self.old.rows.items i }
-        ensures* lent { sem 𝓛 (follows the_table the_node self.entry.ghost_name result.ghost_name (λ w. record { rows = with_item self.old.rows i w; used = self.old.used; roots = self.old.roots; vars = self.old.vars })) }
+        ensures* lent { sem 𝓛 (follows the_table the_node self.entry.ghost_name result.ghost_name (λ w. record { rows = with_item self.old.rows i w; roots = self.old.roots })) }
     {
         &mut self.rows[i]
     }

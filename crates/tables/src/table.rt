@@ -1,11 +1,10 @@
 // A table of rows: one graph.
 use crate::node::Node;
 
-// The first `used` rows hold the nodes of a graph, the first `vars` roots the nodes of its variables.
+// The rows hold the nodes of a graph, and the roots the nodes of its variables. A plain record: one row is lent to be changed, so that what every
+// graph keeps stands in contracts, as `Sound`.
 #[derive(Drop)]
 pub struct Table {
     pub rows: Vec<Node>,
-    pub used: usize,
     pub roots: Vec<u16>,
-    pub vars: usize,
 }

@@ -1,13 +1,17 @@
 // A table grown and copied, and attributes walked.
-use crate::attributes::{lowest, without_lowest};
+use crate::node::Node;
 use crate::table::Table;
 use std::test::Fail;
 
 #[test]
 fn attributes_come_from_the_lowest_up(rt: HostRuntime) {
-    assert_eq!(rt; lowest(0), None);
-    assert_eq!(rt; lowest(0x8000_0020), Some(5));
-    assert_eq!(rt; lowest(without_lowest(0x8000_0020)), Some(31));
+    let mut node = Node::bare(0);
+    assert_eq!(rt; node.edges().next(), None);
+    node.present = 0x8000_0020;
+    let mut edges = node.edges();
+    assert_eq!(rt; edges.next(), Some((5, 0)));
+    assert_eq!(rt; edges.next(), Some((31, 0)));
+    assert_eq!(rt; edges.next(), None);
 }
 
 #[test]

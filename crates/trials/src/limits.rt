@@ -2,7 +2,7 @@
 use crate::trial::Answer::*;
 use crate::trial::Call::*;
 use crate::trial::{Answer, Trial, at, run};
-use answers::refusal::Refusal;
+use answers::refusal::{Refusal, Side};
 use kinds::atoms::Atoms;
 use std::alloc::Global;
 use std::process::Abort;
@@ -50,23 +50,32 @@ fn terms(rt: HostRuntime) -> Result<(), Fail> {
         rt.alloc(),
         Atoms,
         &[
-            (Value(at(0, &[32])), Refused(Refusal::Undeclared(0))),
+            (
+                Value(at(0, &[32])),
+                Refused(Refusal::Undeclared(Side::Left)),
+            ),
             (Declare, Variable(0)),
             (
                 Same(at(0, &[32]), at(1, &[])),
-                Refused(Refusal::NoAttribute(0, 0)),
+                Refused(Refusal::NoAttribute(Side::Left, 0)),
             ),
             (
                 Same(at(0, &[31]), at(1, &[])),
-                Refused(Refusal::Undeclared(1)),
+                Refused(Refusal::Undeclared(Side::Right)),
             ),
             (Is(at(0, &[31; 8]), 65_536), Refused(Refusal::NoSuchValue)),
             (Is(at(0, &[31; 8]), 65_535), Accepted),
-            (Is(at(0, &[32; 9]), 65_536), Refused(Refusal::LongTerm(0))),
-            (Value(at(0, &[31; 9])), Refused(Refusal::LongTerm(0))),
+            (
+                Is(at(0, &[32; 9]), 65_536),
+                Refused(Refusal::LongTerm(Side::Left)),
+            ),
+            (
+                Value(at(0, &[31; 9])),
+                Refused(Refusal::LongTerm(Side::Left)),
+            ),
             (
                 Same(at(0, &[]), at(0, &[31, 32])),
-                Refused(Refusal::NoAttribute(1, 1)),
+                Refused(Refusal::NoAttribute(Side::Right, 1)),
             ),
             (Value(at(0, &[31; 8])), Found(Some(65_535))),
         ],

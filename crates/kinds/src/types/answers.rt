@@ -1,10 +1,11 @@
 // What a type hierarchy answers as a kind of value.
+ghost use Rattle.kinds.specs.Orders.{sets, size};
 ghost use Rattle.kinds.specs.Types.{meaning_of};
 ghost use Rattle.kinds.specs.Hierarchies.{sound_known, hierarchy_lawful};
 
 use crate::kind::Kind;
+use crate::masks::{has_bit, lowest_bit};
 use crate::types::Types;
-use crate::types::masks::{has_bit, lowest_bit};
 
 // The number of the top.
 const TOP: u64 = 0;
@@ -12,10 +13,10 @@ const TOP: u64 = 0;
 impl Kind for Types {
     ghost meaning = { meaning_of };
 
-    ghost lawful = { λ k. hierarchy_lawful k.count k.below k.leaves (sound_known k.count k.below k.leaves k.sound) };
+    ghost lawful = { λ k. hierarchy_lawful (size k.order) (sets k.order) k.leaves (sound_known (size k.order) (sets k.order) k.leaves k.sound) };
 
     fn is_value(&self, v: u64) -> bool {
-        v < self.count as u64
+        v < u64::from(self.order.count())
     }
 
     fn top(&self) -> u64 {
@@ -27,9 +28,8 @@ impl Kind for Types {
     }
 
     fn meet(&self, a: u64, b: u64) -> Option<u64> {
-        if a >= self.count as u64 || b >= self.count as u64 {
-            return None;
-        }
-        lowest_bit(self.below[a as usize] & self.below[b as usize])
+        let below = self.order.below.as_slice();
+        let common = *below.get(a as usize)? & *below.get(b as usize)?;
+        lowest_bit(common).map(u64::from)
     }
 }

@@ -1,14 +1,14 @@
 // Filling a type hierarchy.
 ghost use Rattle.std.specs.Prelude.{[], MatchResult};
+ghost use Rattle.kinds.specs.Orders.{sets, size};
 ghost use Rattle.kinds.specs.Hierarchy.{Sound, hierarchy};
 ghost use Rattle.kinds.specs.Types.{Refused, Accepted, Described, Filled, Settled, meaning_of};
 
 use crate::types::Types;
-use crate::types::links::{Link, first_not_upward, first_orphan};
-use crate::types::marks::first_astray;
-use crate::types::meets::first_parted;
+use crate::types::links::Link;
 use crate::types::misfit::Misfit;
-use crate::types::order::down_sets;
+use crate::types::order::Order;
+use crate::types::upward::{UpwardLinks, singles};
 
 impl Types {
     // Type 0 alone, which is no leaf.
@@ -16,8 +16,7 @@ impl Types {
         ensures { Described 1 [] 0 (meaning_of result) }
     {
         Types {
-            count: 1,
-            below: [1; 64],
+            order: Order { below: singles(1) },
             leaves: 0,
         }
     }
@@ -27,35 +26,26 @@ impl Types {
         ensures filled { Filled count links.now leaves self.old result self.new }
         ensures settled { Settled count links.now leaves result self.new }
     {
-        let below = accepted(count, links, leaves)?;
-        *self = Types {
-            count,
-            below,
-            leaves,
-        };
+        let order = accepted(count, links, leaves)?;
+        *self = Types { order, leaves };
         Ok(())
     }
 }
 
-// The types at or below each type, where there is no ground to refuse.
-fn accepted(count: u16, links: &[Link], marks: u64) -> Result<[u64; 64], Misfit>
-    ensures { MatchResult result (λ below. Accepted count links.now marks × Sound count below marks × Described count links.now marks (hierarchy count below marks)) (λ e. Refused count links.now marks e) }
+// The order of the types, where there is no ground to refuse.
+fn accepted(count: u16, links: &[Link], marks: u64) -> Result<Order, Misfit>
+    ensures { MatchResult result (λ order. Accepted count links.now marks × Sound (size order) (sets order) marks × Described count links.now marks (hierarchy (size order) (sets order) marks)) (λ e. Refused count links.now marks e) }
 {
-    if count == 0 || count > 64 {
-        return Err(Misfit::WrongCount);
-    }
-    if let Some(position) = first_not_upward(count, links) {
-        return Err(Misfit::WrongLink(position));
-    }
-    if let Some(t) = first_orphan(count, links) {
+    let links = UpwardLinks::new(count, links)?;
+    if let Some(t) = links.first_orphan() {
         return Err(Misfit::Unlinked(t));
     }
-    let below = down_sets(count, links);
-    if let Some((a, b)) = first_parted(&below, count) {
+    let order = links.order();
+    if let Some((a, b)) = order.first_parted() {
         return Err(Misfit::NoGreatest(a, b));
     }
-    if let Some(t) = first_astray(&below, count, marks) {
+    if let Some(t) = order.first_astray(marks) {
         return Err(Misfit::WrongMark(t));
     }
-    Ok(below)
+    Ok(order)
 }

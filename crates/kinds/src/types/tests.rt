@@ -2,6 +2,7 @@
 use crate::kind::Kind;
 use crate::types::crossing::fill_crossed;
 use crate::types::{Link, Misfit, Types};
+use std::array;
 
 fn link(subtype: u16, supertype: u16) -> Link {
     Link { subtype, supertype }
@@ -9,11 +10,7 @@ fn link(subtype: u16, supertype: u16) -> Link {
 
 // Types 1 to 63, each right below 0.
 fn flat() -> [Link; 63] {
-    let mut links = [link(1, 0); 63];
-    for i in 0..63 {
-        links[i] = link(i as u16 + 1, 0);
-    }
-    links
+    array::from_fn(|i| link(i as u16 + 1, 0))
 }
 
 #[test]

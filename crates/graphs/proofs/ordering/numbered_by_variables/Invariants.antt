@@ -1,8 +1,8 @@
-use Rattle.std.proofs.Common.{◌≤◌}
+use Rattle.std.proofs.Common.{◌≤◌, vec_len}
 use Rattle.features.specs.Numbering.{by_variable}
 use Rattle.tables.specs.Views.{graph}
 use Rattle.graphs.specs.Mentioned.{NumberedUpTo}
 use Rattle.graphs.proofs.ordering.numbered_by_variables.Given as goal
 
-abbrev pub invariant-loop-x : goal.invariant-loop-x
-invariant-loop-x l = NumberedUpTo (graph l.table) (by_variable l.x) l.next × (l.next ≤ l.table.used)
+abbrev pub invariant-loop-root : goal.invariant-loop-root
+invariant-loop-root l = NumberedUpTo (graph l.table) (by_variable l.root-index) l.next × (l.next ≤ vec_len l.table.rows)

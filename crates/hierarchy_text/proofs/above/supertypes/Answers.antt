@@ -1,5 +1,4 @@
-use Rattle.std.proofs.Common.{◌+◌, take, sym, subst, arith}
-use Rattle.std.proofs.lemmas.List.{take_all}
+use Rattle.std.proofs.Common.{◌+◌, take, sym, subst}
 use Rattle.hierarchy_text.specs.Sheets.{Supertypes}
 use Rattle.hierarchy_text.proofs.Rising.{supertypes_none, supertypes_skip, supertypes_more}
 use Rattle.hierarchy_text.proofs.above.supertypes.Goals as goal
@@ -17,7 +16,3 @@ loop-link-preserved c =
       | else-link-t w ↦ subst (λ x. Supertypes (take (i + 1) links) t x) (sym w.set-is)
           (supertypes_skip links i t c.loop-link.set c.loop-link-test.true c.loop-link.invariant w.if-link-t.false)
     ]
-
-pub returns : goal.returns
-returns c =
-    subst (λ x. Supertypes x c.args.t c.loop-link.set) (take_all c.loop-link.link-index c.args.links.now (omega arith)) c.loop-link.invariant

@@ -4,12 +4,12 @@ use Rattle.joining.specs.Workspaces.{standing}
 use Rattle.joining.proofs.Meeting.{meets_states}
 use Rattle.joining.proofs.states.meet_states.Goals as goal
 
-pub returns-in-Some-b : goal.returns-in-Some-b
-returns-in-Some-b g c =
-    meets_states (g.K.Kind.meaning c.args.kind.now) c.args.a c.args.b c.meet.result c.in-Some.x c.in-Some-b.y c.in-Some.is c.in-Some-b.is c.meet.ensures
+pub returns-in_err-a : goal.returns-in_err-a
+returns-in_err-a g c = rw c.from_residual.ensures (λ v all. all none (inl (sym (ap standing c.in_err-a.was))))
 
-pub returns-in-None-b : goal.returns-in-None-b
-returns-in-None-b g c = λ v all. all none (inr (sym (ap standing c.in-None-b.is)))
+pub returns-in_err-b : goal.returns-in_err-b
+returns-in_err-b g c = rw c.from_residual-in_err-b.ensures (λ v all. all none (inr (sym (ap standing c.in_err-b.was))))
 
-pub returns-in-None : goal.returns-in-None
-returns-in-None g c = λ v all. all none (inl (sym (ap standing c.in-None.is)))
+pub returns : goal.returns
+returns g c =
+    meets_states (g.K.Kind.meaning c.args.kind.now) c.args.a c.args.b c.meet.result c.in_ok-a.field-0 c.in_ok-b.field-0 c.in_ok-a.was c.in_ok-b.was c.meet.ensures

@@ -1,35 +1,53 @@
-use Rattle.std.proofs.Common.{ℕ, List, [], ◌∷◌, ◌++◌, get_or, refl, subst, arith}
+use Rattle.std.proofs.Common.{◌≡◌, ℕ, [], ◌∷◌, ◌++◌, get_or, sym, ap, ◌∙◌, arith}
+use mathlib.Core.Option.{some}
+use denote.Ref.{Bor}
 use Rattle.features.specs.Listing.{little}
-use Rattle.listings.specs.Buffers.{Placed}
-use Rattle.listings.proofs.Placing.{placed_none, placed_append}
-use Rattle.listings.proofs.Entries.{entries_done, entry_fits, entries_more}
+use Rattle.tables.specs.declared.node.Node.{Node}
+use Rattle.tables.specs.Views.{edge_of}
+use Rattle.tables.proofs.Leading.{shown_edge}
+use Rattle.buffers.proofs.Runs.{wrote_none, wrote_append, wrote_same}
+use Rattle.listings.specs.Parts.{entries_of}
+use Rattle.listings.proofs.Entries.{only, entries_done, entry_fits, entries_more}
 use Rattle.listings.proofs.parts.put_entries.Goals as goal
 
 pub loop-attribute-init : goal.loop-attribute-init
-loop-attribute-init c = ([], placed_none c.args.at c.args.out.now, refl)
+loop-attribute-init c =
+    let same = c.into_iter-attribute-iterator.ensures.into_iter_gives in
+    let left = ap (λ (z : _). z.left) same ∙ c.edges-attribute-items.ensures.left in (
+      [],
+      wrote_none c.args.writer.now,
+      ap (λ (z : ℕ). entries_of (only c.args.node.now z)) left,
+      ap (λ (z : _). z.node.now) same ∙ c.edges-attribute-items.ensures.node,
+    )
 
-pub put_entry-at-requires : goal.put_entry-at-requires
-put_entry-at-requires c =
+pub put_entry-requires : goal.put_entry-requires
+put_entry-requires c =
     let inv = c.loop-attribute.invariant in
-    let w = c.in-Some.ensures in
-    let fits = entry_fits c.args.node.now c.loop-attribute.left c.in-Some.attribute inv.0 w inv.2 in
-    record { room = omega (arith, fits, inv.1.end, c.requires, c.loop-attribute.auto.out); small = w.below }
+    let low = c.in-Some.ensures.steps.1.0 in
+    let fits = entry_fits c.args.node.now c.loop-attribute.attribute-iterator.left c.in-Some.attribute inv.0 low inv.2 in
+    record { fits = omega (arith, fits, inv.1.room, c.requires); small = low.below }
+
+-- where an edge leads, by the row's targets
+target_is : (r : Node) (a t u : ℕ) → edge_of r a ≡ some t → edge_of r a ≡ some u → t ≡ u
+target_is r a t u e f = cc
 
 pub loop-attribute-preserved : goal.loop-attribute-preserved
 loop-attribute-preserved c =
     let inv = c.loop-attribute.invariant in
-    let w = c.in-Some.ensures in
+    let step = c.in-Some.ensures.steps in
     let r = c.args.node.now in
+    let it = c.loop-attribute.attribute-iterator in
     let a = c.in-Some.attribute in
-    let bytes : List ℕ = a ∷ little 2 (get_or r.targets a 0) in (
-      inv.0 ++ bytes,
-      placed_append c.args.at c.loop-attribute.at c.put_entry-at.result inv.0 bytes c.args.out.now c.loop-attribute.out c.put_entry-at.new.out
-          (omega (arith, c.requires)) inv.1 c.put_entry-at.ensures,
-      entries_more r c.loop-attribute.left c.without_lowest-left.result a inv.0 w c.without_lowest-left.ensures inv.2,
+    let leads = target_is it.node.now a (get_or it.node.now.targets a 0) c.in-Some.target (shown_edge it.node.now a step.1.0.below (it.of_the_node a step.1.0.present)) step.1.2 in
+    let is : get_or r.targets a 0 ≡ c.in-Some.target = ap (λ (z : Node). get_or z.targets a 0) (sym inv.3) ∙ leads in
+    let put = wrote_same (ap (λ (z : ℕ). a ∷ little 2 z) (sym is)) c.put_entry.ensures in (
+      inv.0 ++ (a ∷ little 2 (get_or r.targets a 0)),
+      wrote_append inv.1 put,
+      entries_more r it.left c.next.new.self.left a inv.0 step.1.0 step.1.1 inv.2,
+      ap (λ (z : Bor Node). z.now) step.0 ∙ inv.3,
     )
 
 pub returns : goal.returns
 returns c =
     let inv = c.loop-attribute.invariant in
-    subst (λ (bytes : List ℕ). Placed c.args.at bytes c.args.out.now c.loop-attribute.out c.loop-attribute.at)
-    (entries_done c.args.node.now c.loop-attribute.left inv.0 c.in_default.ensures inv.2) inv.1
+    wrote_same (entries_done c.args.node.now c.loop-attribute.attribute-iterator.left inv.0 c.in-None.ensures.steps.1.0 inv.2) inv.1

@@ -1,7 +1,13 @@
-use Rattle.features.specs.Listing.{along}
-use Rattle.listings.specs.Buffers.{Placed}
-use Rattle.printing.specs.Texts.{hex_line}
+use Rattle.std.proofs.Common.{◌≡◌, ℕ, List, ◌++◌}
+use Rattle.std.specs.Slice.Iter.{chunks_rest, chunks_size}
+use Rattle.buffers.specs.Writing.{Wrote}
+use Rattle.printing.specs.Texts.{hexadecimal}
 use Rattle.printing.proofs.hexadecimal.put_hexadecimal.Given as goal
 
-abbrev pub invariant-loop-k : goal.invariant-loop-k
-invariant-loop-k l = Placed l.initial.at (along (hex_line l.bytes) 0 l.k) l.initial.out l.out l.at
+-- some lines were put, and with those of the bytes that are left they are all
+abbrev pub invariant-loop-line : goal.invariant-loop-line
+invariant-loop-line l =
+    goal.iterator-loop-line.can_next l.line-iterator
+    × goal.iterator-loop-line.is_finite l.line-iterator
+    × (chunks_size l.line-iterator ≡ 32)
+    × (done : List ℕ) × Wrote done l.initial.writer l.writer × (done ++ hexadecimal (chunks_rest l.line-iterator) ≡ hexadecimal l.bytes)

@@ -1,32 +1,22 @@
-use Rattle.std.proofs.Common.{ℕ, ◌*◌, List, length, take, drop, ap, subst, arith}
+use Rattle.std.proofs.Common.{sym, ap, arith, length-append}
 use mathlib.Core.List.{flat_map}
-use Rattle.listings.specs.Buffers.{Placed}
-use Rattle.listings.proofs.Placing.{placed_append}
+use Rattle.std.proofs.lemmas.List.{take_all}
+use Rattle.buffers.proofs.Runs.{wrote_none, wrote_append, wrote_same}
 use Rattle.printing.specs.Texts.{line_end, hex_byte}
-use Rattle.printing.proofs.Hex.{width_bytes, line_is, length_line_is}
+use Rattle.printing.proofs.Flat.{flat_none, flat_room, wrote_next}
 use Rattle.printing.proofs.hexadecimal.put_line.Goals as goal
 
-pub put_bytes-at-requires : goal.put_bytes-at-requires
-put_bytes-at-requires c =
-    let bytes = c.args.bytes.now in
-    let same = ap (λ (t : List ℕ). length (flat_map hex_byte t)) (width_bytes bytes c.args.k c.min.result c.requires.starts c.min.ensures) in
-    omega (arith, c.requires.room, length_line_is bytes c.args.k, same)
+pub loop-byte-init : goal.loop-byte-init
+loop-byte-init c = wrote_same (sym (flat_none hex_byte)) (wrote_none c.args.writer.now)
 
-pub put-requires : goal.put-requires
-put-requires c =
-    let bytes = c.args.bytes.now in
-    let same = ap (λ (t : List ℕ). length (flat_map hex_byte t)) (width_bytes bytes c.args.k c.min.result c.requires.starts c.min.ensures) in
-    omega (arith, c.requires.room, length_line_is bytes c.args.k, same, c.put_bytes-at.ensures.end)
+pub put_byte-requires : goal.put_byte-requires
+put_byte-requires c =
+    omega (arith, flat_room hex_byte c.args.bytes.now c.loop-byte.byte-index c.loop-byte-test.true, length-append (flat_map hex_byte c.args.bytes.now) line_end)
+
+pub loop-byte-preserved : goal.loop-byte-preserved
+loop-byte-preserved c = wrote_next hex_byte c.args.bytes.now c.loop-byte.byte-index c.loop-byte-test.true c.loop-byte.invariant c.put_byte.ensures
 
 pub returns : goal.returns
 returns c =
-    let bytes = c.args.bytes.now in
-    let k = c.args.k in
-    let at = c.args.at in
-    let out = c.args.out.now in
-    let same = width_bytes bytes k c.min.result c.requires.starts c.min.ensures in
-    let first =
-    subst (λ (t : List ℕ). Placed at (flat_map hex_byte t) out c.put_bytes-at.new.out c.put_bytes-at.result) same c.put_bytes-at.ensures in
-    subst (λ (t : List ℕ). Placed at t out c.put.new.out c.put.result) (line_is bytes k)
-    (placed_append at c.put_bytes-at.result c.put.result (flat_map hex_byte (take 32 (drop (32 * k) bytes))) line_end out c.put_bytes-at.new.out c.put.new.out
-    (omega (arith, c.requires.room)) first c.put.ensures)
+    let all = take_all c.loop-byte.byte-index c.args.bytes.now (omega arith) in
+    wrote_append (wrote_same (ap (flat_map hex_byte) all) c.loop-byte.invariant) c.put.ensures

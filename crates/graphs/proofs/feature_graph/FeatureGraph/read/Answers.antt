@@ -1,4 +1,4 @@
-use Rattle.std.proofs.Common.{◌≤◌, sym, refl, subst}
+use Rattle.std.proofs.Common.{◌≤◌, vec_len, vec_capacity, sym, refl, subst, arith}
 use Rattle.features.specs.Numbering.{BreadthFirst}
 use Rattle.features.specs.Order.{InOrder}
 use Rattle.features.proofs.Numbering.{breadth_first_in_order}
@@ -12,14 +12,12 @@ use Rattle.graphs.proofs.Refusing.{listings_are_read}
 use Rattle.graphs.proofs.Whole.{inside_of}
 use Rattle.graphs.proofs.feature_graph.FeatureGraph.read.Goals as goal
 
-pub read_table-requires : goal.read_table-requires
-read_table-requires g c = sound_known c.args.self.now.room
-
 pub invariant_of-self : goal.invariant_of-self
 invariant_of-self g c = record {
   sound = c.args.self.now.sound;
-  room = ∣ c.read_table.ensures.sound ∣₁;
   few = c.args.self.now.few;
+  row_room = omega (arith, c.read_table.ensures.row_room, c.args.self.now.row_room);
+  root_room = omega (arith, c.read_table.ensures.root_room, c.args.self.now.root_room);
   ordered = c.args.self.now.ordered;
 }
 
@@ -29,10 +27,11 @@ invariant_of-self-2 g c =
     let x = sym c.swap.ensures.x_after in
     let y = sym c.swap.ensures.y_after in
     record {
-      sound = ∣ subst Sound x e.sound ∣₁;
-      room = subst (λ (z : Table). ∥ Sound z ∥₁) y c.args.self.now.sound;
-      few = subst (λ (z : Table). z.used ≤ 256) x e.cases.0.within.few_nodes;
-      ordered = ∣ subst (λ (z : Table). BreadthFirst (graph z)) x e.cases.1 ∣₁;
+      sound = ∣ subst Sound x e.cases.0 ∣₁;
+      few = subst (λ (z : Table). vec_len z.rows ≤ 256) x e.cases.1.within.few_nodes;
+      row_room = subst (λ (z : Table). 272 ≤ vec_capacity z.rows) y (sound_known c.args.self.now.sound).row_room;
+      root_room = subst (λ (z : Table). 64 ≤ vec_capacity z.roots) y (sound_known c.args.self.now.sound).root_room;
+      ordered = ∣ subst (λ (z : Table). BreadthFirst (graph z)) x e.cases.2 ∣₁;
     }
 
 pub returns : goal.returns
@@ -42,9 +41,9 @@ returns g c =
     let e = c.in_ok-read_table.ensures in
     let x = sym c.swap.ensures.x_after in
     let t = graph c.read_table.new.table in
-    let read = subst (λ (z : Table). Written m bs (graph z)) x e.cases.0 in
+    let read = subst (λ (z : Table). Written m bs (graph z)) x e.cases.1 in
     record {
-      cases = (read, subst (λ (z : Table). InOrder (graph z)) x (breadth_first_in_order t (inside_of m bs t e.cases.0) e.cases.1));
+      cases = (read, subst (λ (z : Table). InOrder (graph z)) x (breadth_first_in_order t (inside_of m bs t e.cases.1) e.cases.2));
       accepted = λ h w order. (refl, written_once m bs h (graph c.swap.new.x) w read);
     }
 

@@ -1,7 +1,7 @@
 use Rattle.std.proofs.Common.{◌≡◌, suc, ◌+◌, ◌-◌, ◌<◌, vec_items, vec_len, sym, subst, arith}
 use Rattle.std.proofs.lemmas.Nat.{one_shl}
 use Rattle.hierarchy_text.specs.Sheets.{Supertypes}
-use Rattle.hierarchy_text.proofs.Rising.{Rising, rising_start, rising_skip, rising_more, rising_whole, none_above}
+use Rattle.hierarchy_text.proofs.Rising.{Rising, rising_start, rising_more, rising_whole, none_above}
 use Rattle.hierarchy_text.proofs.sheet.Sheet.at_or_above.Goals as goal
 
 pub loop-u-init : goal.loop-u-init
@@ -9,13 +9,6 @@ loop-u-init c =
     let sheet = c.args.self.now in let t = c.args.t in let few = sheet.few in
     let small : t < 64 = omega (arith, few.1) in
     subst (λ x. Rising (vec_items sheet.links) t (t + 1) x) (sym (one_shl t 64 small)) (rising_start (vec_items sheet.links) sheet.upward t)
-
-pub loop-u-preserved : goal.loop-u-preserved
-loop-u-preserved c =
-    let sheet = c.args.self.now in let t = c.args.t in let k = c.loop-u.u - 1 in
-    let e : suc k ≡ c.loop-u.u = omega arith in
-    rising_skip (vec_items sheet.links) sheet.upward t k c.loop-u.set (sym c.if-has_bit.ensures)
-    (subst (λ x. Rising (vec_items sheet.links) t x c.loop-u.set) (sym e) c.loop-u.invariant)
 
 pub returns : goal.returns
 returns c =
@@ -26,7 +19,7 @@ returns c =
 
 pub returns-then-t-len : goal.returns-then-t-len
 returns-then-t-len c =
-    let sheet = c.args.self.now in none_above (vec_len sheet.entries) c.args.t (vec_items sheet.links) (omega arith)
+    let sheet = c.args.self.now in none_above (vec_len sheet.entries.list) c.args.t (vec_items sheet.links) (omega arith)
 
 pub loop-u-preserved-then-has_bit : goal.loop-u-preserved-then-has_bit
 loop-u-preserved-then-has_bit c =

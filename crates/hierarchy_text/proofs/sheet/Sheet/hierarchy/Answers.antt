@@ -1,18 +1,14 @@
-use Rattle.std.proofs.Common.{vec_items, vec_len, sym, refl}
-use Rattle.hierarchy_text.proofs.Grounds.{left_open, names_types, refused_same}
+use Rattle.std.proofs.Common.{rules}
+use Rattle.hierarchy_text.proofs.Grounds.{never_orphaned, mark_named, refused_same}
 use Rattle.hierarchy_text.proofs.sheet.Sheet.hierarchy.Goals as goal
 
-pub objection_of-requires : goal.objection_of-requires
-objection_of-requires c =
-    let sheet = c.args.self.now in
-    left_open (vec_len sheet.entries) (vec_items sheet.links) sheet.marks sheet.few sheet.upward sheet.linked
-    c.in-Err.misfit (refused_same c.len.ensures c.as_slice.ensures.value refl c.in-Err.ensures.filled.0)
+pub unreachable-requires-in-Err-Unlinked : goal.unreachable-requires-in-Err-Unlinked
+unreachable-requires-in-Err-Unlinked c =
+    let unlinked = c.in-Err-Unlinked in
+    never_orphaned c.args.self.now.linked (refused_same c.len-count.ensures c.as_slice.ensures.value unlinked.field-0-is unlinked.ensures.filled.0)
 
-pub returns-in-Err : goal.returns-in-Err
-returns-in-Err c =
-    let sheet = c.args.self.now in
-    let r = refused_same c.len.ensures c.as_slice.ensures.value (sym c.objection_of.ensures) c.in-Err.ensures.filled.0 in (
-      r,
-      names_types (vec_len sheet.entries) (vec_items sheet.links) sheet.marks sheet.few sheet.upward
-          (vec_items sheet.entries) sheet.marked c.objection_of.result r,
-    )
+pub returns-in-Err-WrongMark : goal.returns-in-Err-WrongMark
+returns-in-Err-WrongMark c =
+    let sheet = c.args.self.now in let marked = c.in-Err-WrongMark in
+    let refused = refused_same c.len-count.ensures c.as_slice.ensures.value marked.field-0-is marked.ensures.filled.0 in
+    let named = mark_named _ _ _ _ _ sheet.upward sheet.marked refused in search rules

@@ -1,4 +1,4 @@
-use Rattle.std.proofs.Common.{◌+◌, ◌*◌, length}
+use Rattle.std.proofs.Common.{◌+◌, ◌*◌, length, vec_len}
 use Rattle.queue.specs.Waiting.{waiting, capacity}
 use Rattle.joining.specs.Uniting.{representatives}
 use Rattle.joining.specs.Workspaces.{rep}
@@ -10,4 +10,4 @@ invariant-loop-pair g l = Midway (g.K.Kind.meaning l.kind) l.left l.right l.init
 
 -- a join takes one representative away, and lets at most 32 pairs wait
 abbrev pub decreases-loop-pair : goal.decreases-loop-pair
-decreases-loop-pair g l = length (waiting l.queue) + 33 * representatives (rep l.self) l.initial.self.table.used
+decreases-loop-pair g l = length (waiting l.queue) + 33 * representatives (rep l.self) (vec_len l.initial.self.table.rows)

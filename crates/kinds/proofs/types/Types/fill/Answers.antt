@@ -4,10 +4,10 @@ use Rattle.kinds.proofs.Settling.{filled_settled}
 use Rattle.kinds.proofs.types.Types.fill.Goals as goal
 
 pub invariant_of-self : goal.invariant_of-self
-invariant_of-self c = record { sound = ∣ c.in_ok-below.ensures.1 ∣₁ }
+invariant_of-self c = record { sound = ∣ c.in_ok-order.ensures.1 ∣₁ }
 
-pub returns-in_err-below : goal.returns-in_err-below
-returns-in_err-below c =
+pub returns-in_err-order : goal.returns-in_err-order
+returns-in_err-order c =
     let n = c.args.count in let links = c.args.links.now in let marks = c.args.leaves in
     let before = c.args.self.now in
     let f : Filled n links marks before c.from_residual.result before = search rules in
@@ -15,7 +15,7 @@ returns-in_err-below c =
 
 pub returns : goal.returns
 returns c =
-    let made = c.in_ok-below.ensures in
+    let made = c.in_ok-order.ensures in
     record {
       filled = (made.0, made.2);
       settled =

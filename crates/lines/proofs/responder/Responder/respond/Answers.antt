@@ -6,6 +6,7 @@ use Rattle.printing.specs.Texts.{answer_text, malformed_text}
 use Rattle.printing.specs.declared.outcome.Ground.{Ground}
 use Rattle.lines.specs.Responses.{short, unread, answered}
 use Rattle.lines.proofs.Lines.{fits}
+use Rattle.printing.proofs.Bounds.{malformed_fits}
 use Rattle.lines.proofs.responder.Responder.respond.Goals as goal
 
 pub returns-then-out-lt-ROOM : goal.returns-then-out-lt-ROOM
@@ -23,10 +24,13 @@ returns-in-Ok c =
 pub returns-in-Err : goal.returns-in-Err
 returns-in-Err c =
     let why = c.in-Err.why in
-    let bytes = c.print_malformed.ensures.bytes in
+    let bytes = c.refuse.ensures.bytes in
     record {
       responds =
           unread why (omega (arith, c.if-out-lt-ROOM.false)) c.in-Err.ensures refl
-          (record { bytes = bytes; why = ap (λ (g : Ground). some g) c.print_malformed.ensures.cause });
-      within = fits (malformed_text why) c.args.out.now c.print_malformed.new.out c.print_malformed.result.printed bytes;
+          (record { bytes = bytes; why = ap (λ (g : Ground). some g) c.refuse.ensures.cause });
+      within = fits (malformed_text why) c.args.out.now c.refuse.new.out c.refuse.result.printed bytes;
     }
+
+pub refuse-requires : goal.refuse-requires
+refuse-requires c = omega (arith, malformed_fits c.in-Err.why)

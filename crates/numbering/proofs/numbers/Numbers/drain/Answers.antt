@@ -38,7 +38,7 @@ loop-row-smaller c =
     let i = num n c.in-Some.row in
     let before = waiting_long g (by_attribute v 0) v n (waiting c.loop-row.queue) c.loop-row.invariant.1 in
     let after = waiting_long g (by_attribute (i + 1) 0) (i + 1) c.visit.new.self (waiting c.visit.new.queue) c.visit.ensures.numbered in
-    omega (arith, p.number, p.in_count, c.visit.ensures.numbered.visited, c.visit.ensures.numbered.room.count, c.loop-row.invariant.1.room.count)
+    omega (arith, p.number, p.in_count, c.visit.ensures.numbered.visited, c.visit.new.self.few, n.few)
 
 pub returns : goal.returns
 returns c =

@@ -1,34 +1,19 @@
-use Rattle.std.proofs.Common.{◌≡◌, ℕ, ◌∙◌, subst, arith}
-use Rattle.features.specs.Numbering.{by_variable}
-use Rattle.tables.specs.Views.{graph}
+use Rattle.std.proofs.Common.{◌<◌, vec_len, ◌∙◌, arith}
 use Rattle.queue.specs.Waiting.{waiting, capacity}
-use Rattle.numbering.specs.Frontier.{Underway}
-use Rattle.numbering.proofs.Steps.{root_in, root_free, root_mentioned, variables_done}
+use Rattle.numbering.proofs.Steps.{root_free, root_mentioned}
 use Rattle.numbering.proofs.numbers.Numbers.roots.Goals as goal
 
-pub mention-requires : goal.mention-requires
-mention-requires c =
-    let t = c.args.table.now in
-    let at = c.loop-x.invariant.0 in
-    let inside = root_in t c.requires.sound c.loop-x.x c.loop-x-test.true c.index.result.now c.index.ensures c.loop-x.self (waiting c.loop-x.queue) at in
-    record {
-      room = at.room;
-      row = omega (arith, c.requires.sound.used);
-      free = root_free t c.requires.sound c.loop-x.x c.loop-x-test.true c.index.result.now c.index.ensures c.loop-x.self (waiting c.loop-x.queue) at
-          (capacity c.loop-x.queue) (omega (arith, c.requires.space, c.loop-x.invariant.1));
-    }
+pub mention-requires-clause-free : goal.mention-requires-clause-free
+mention-requires-clause-free c =
+    let inside : c.loop-x.x < vec_len c.args.table.now.roots = omega (arith, c.loop-x-test.true, c.loop-x.auto.x-end, c.deref-root-items.ensures.len) in
+    rw c.deref-root-items.ensures.value
+    (root_free c.args.table.now c.requires.sound c.loop-x.x inside c.loop-x.self (waiting c.loop-x.queue) c.loop-x.invariant.0
+    (capacity c.loop-x.queue) (omega (arith, c.requires.space, c.loop-x.invariant.1)))
 
 pub loop-x-preserved : goal.loop-x-preserved
-loop-x-preserved c = (
-  root_mentioned c.args.table.now c.requires.sound c.loop-x.x c.loop-x-test.true c.index.result.now c.index.ensures c.loop-x.self (waiting c.loop-x.queue) c.loop-x.invariant.0
-      c.mention.new.self (waiting c.mention.new.queue) c.mention.ensures.known c.mention.ensures.fresh,
-  c.mention.ensures.capacity ∙ c.loop-x.invariant.1,
-)
-
-pub returns : goal.returns
-returns c =
-    let t = c.args.table.now in
-    let end : c.loop-x.x ≡ t.vars = omega arith in
-    let at : Underway (graph t) (by_variable t.vars) 0 c.loop-x.self (waiting c.loop-x.queue) =
-    subst (λ (z : ℕ). Underway (graph t) (by_variable z) 0 c.loop-x.self (waiting c.loop-x.queue)) end c.loop-x.invariant.0 in
-    record { numbered = variables_done (graph t) 0 c.loop-x.self (waiting c.loop-x.queue) at; capacity = c.loop-x.invariant.1 }
+loop-x-preserved c =
+    let inside : c.loop-x.x < vec_len c.args.table.now.roots = omega (arith, c.loop-x-test.true, c.loop-x.auto.x-end, c.deref-root-items.ensures.len) in (
+      root_mentioned c.args.table.now c.requires.sound c.loop-x.x inside c.loop-x.self (waiting c.loop-x.queue) c.loop-x.invariant.0 c.mention.new.self
+          (waiting c.mention.new.queue) (rw c.deref-root-items.ensures.value at c.mention.ensures.known) (rw c.deref-root-items.ensures.value at c.mention.ensures.fresh),
+      c.mention.ensures.capacity ∙ c.loop-x.invariant.1,
+    )

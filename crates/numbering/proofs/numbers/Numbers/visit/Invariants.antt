@@ -1,6 +1,6 @@
-use Rattle.std.proofs.Common.{◌≡◌, ℕ, ◌+◌}
+use Rattle.std.proofs.Common.{◌≡◌, ℕ, ◌+◌, vec_items}
 use Rattle.features.specs.Numbering.{by_attribute}
-use Rattle.tables.specs.Views.{graph}
+use Rattle.tables.specs.Views.{row as row_of, graph}
 use Rattle.queue.specs.Waiting.{waiting, capacity}
 use Rattle.numbering.specs.Given.{ord}
 use Rattle.numbering.specs.Frontier.{Underway}
@@ -11,7 +11,5 @@ use Rattle.numbering.proofs.numbers.Numbers.visit.Given as goal
 abbrev pub invariant-loop-attribute : goal.invariant-loop-attribute
 invariant-loop-attribute l =
     (a : ℕ) × Underway (graph l.table) (by_attribute l.giver a) (l.giver + 1) l.self (waiting l.queue)
-    × (ord l.self l.giver ≡ l.row) × Left l.node.present l.left a × (capacity l.queue ≡ capacity l.initial.queue)
-
-abbrev pub decreases-loop-attribute : goal.decreases-loop-attribute
-decreases-loop-attribute l = l.left
+    × (ord l.self l.giver ≡ l.row) × Left (row_of (vec_items l.table.rows) l.row).present l.attribute-iterator.left a
+    × (l.attribute-iterator.node.now ≡ row_of (vec_items l.table.rows) l.row) × (capacity l.queue ≡ capacity l.initial.queue)

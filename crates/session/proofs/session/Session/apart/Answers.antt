@@ -1,7 +1,7 @@
 use Rattle.std.proofs.Common.{vec_items, sym, refl, ◌∙◌, arith}
 use Rattle.std.proofs.lemmas.Result.{err_from_is_err_and}
 use Rattle.tables.proofs.Known.{sound_known}
-use Rattle.session.specs.Parts.{term_of}
+use Rattle.terms.specs.Terms.{term_of}
 use Rattle.session.specs.Sessions.{graph, kept}
 use Rattle.session.proofs.Aparts.{apart_refused, trail_refused, one_too_many, on_one_refused, apart_taken}
 use Rattle.session.proofs.Keeping.{kept_count, kept_more}

@@ -1,4 +1,4 @@
-use Rattle.std.proofs.Common.{◌≡◌, ℕ, List, [], ◌∷◌, ◌++◌, length, Ok, Err, sym, refl, ◌∙◌, subst}
+use Rattle.std.proofs.Common.{◌≡◌, ℕ, List, [], ◌∷◌, ◌++◌, length, Ok, Err, sym, refl, ◌∙◌, subst, vec_len}
 use mathlib.Core.Option.{some, none}
 use Rattle.std.proofs.lemmas.Result.{err_from_is_err_and}
 use Rattle.features.specs.Terms.{Statement, equals}
@@ -7,7 +7,7 @@ use Rattle.answers.specs.Answers.{pair_fault, fault, Stated}
 use Rattle.tables.specs.declared.table.Table.{Table}
 use Rattle.tables.specs.Views as tables
 use Rattle.tables.proofs.Known.{sound_known}
-use Rattle.session.specs.Parts.{term_of}
+use Rattle.terms.specs.Terms.{term_of}
 use Rattle.session.specs.Sessions.{graph, kept}
 use Rattle.session.proofs.Faults.{faultless_pair}
 use Rattle.session.proofs.Judgement.{next_holds}
@@ -44,7 +44,7 @@ returns-then-trail-lt-CAPACITY g c =
 pub close_equation-requires : goal.close_equation-requires
 close_equation-requires g c =
     let s = c.args.self.now in
-    let good = faultless_pair s.table.vars (term_of c.args.p) (term_of c.args.q) c.in_ok-check_pair.ensures in
+    let good = faultless_pair (vec_len s.table.roots) (term_of c.args.p) (term_of c.args.q) c.in_ok-check_pair.ensures in
     record { sound = sound_known s.sound; few = s.nodes; left = good.0; right = good.1 }
 
 pub returns-in_err-judge : goal.returns-in_err-judge
@@ -60,8 +60,8 @@ returns-in_err-judge g c =
     let e = err_from_is_err_and c.from_residual-in_err-judge.result c.from_residual-in_err-judge.ensures.1 in
     record {
       step = rw (e.1, e.2) (refused_leaving graph kept m lawful s _ refl refl (equals p q) before c.judge.new.trail c.in_err-judge.field-0.0
-          (right_after graph kept m lawful s s (equals p q) c.close_equation.new.self closes.arranged before refl (faultless_pair s.table.vars p q terms)
-          (λ said. equation_terms m s.table.vars said (length before) p q none terms ∙ long_trail m s.table.vars said (length before) c.if-trail-lt-CAPACITY.false)
+          (right_after graph kept m lawful s s (equals p q) c.close_equation.new.self closes.arranged before refl (faultless_pair (vec_len s.table.roots) p q terms)
+          (λ said. equation_terms m (vec_len s.table.roots) said (length before) p q none terms ∙ long_trail m (vec_len s.table.roots) said (length before) c.if-trail-lt-CAPACITY.false)
           closes.stands (Err c.in_err-judge.field-0.0) c.judge.new.trail c.in_err-judge.ensures.closed));
       kind = refl;
     }
@@ -76,9 +76,9 @@ returns g c =
     let before = c.args.trail.now in
     let terms = c.in_ok-check_pair.ensures in
     let closes = c.close_equation.ensures in
-    let good = faultless_pair s.table.vars p q terms in
-    let free : (said : List Statement) → fault m s.table.vars said (equals p q) (length before) ≡ none =
-    λ said. equation_terms m s.table.vars said (length before) p q none terms ∙ long_trail m s.table.vars said (length before) c.if-trail-lt-CAPACITY.false in
+    let good = faultless_pair (vec_len s.table.roots) p q terms in
+    let free : (said : List Statement) → fault m (vec_len s.table.roots) said (equals p q) (length before) ≡ none =
+    λ said. equation_terms m (vec_len s.table.roots) said (length before) p q none terms ∙ long_trail m (vec_len s.table.roots) said (length before) c.if-trail-lt-CAPACITY.false in
     record {
       step = accepted_leaving graph kept m lawful s _ (equals p q) before c.judge.new.trail
           (right_after graph kept m lawful s s (equals p q) c.close_equation.new.self closes.arranged before refl good free closes.stands (Ok tt) c.judge.new.trail c.in_ok-judge.ensures.closed)

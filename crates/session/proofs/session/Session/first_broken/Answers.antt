@@ -11,7 +11,7 @@ loop-i-preserved g c =
     let items = c.deref-apart-items.ensures.value in
     none_through (tables.graph c.args.table.now) (vec_items c.args.self.now.aparts) i x
     (subst (λ (xs : List Apart). i < length xs) items c.loop-i-test.true) (subst (λ (xs : List Apart). x ≡ get_or xs i x) items c.apart-item.is)
-    _ _ c.term.ensures c.term-in-loop-i.ensures c.loop-i.invariant c.if-on_one_node.ensures
+    _ _ c.term.ensures.value c.term-in-loop-i.ensures.value c.loop-i.invariant c.if-on_one_node.ensures
 
 pub returns-then-on_one_node : goal.returns-then-on_one_node
 returns-then-on_one_node g c =
@@ -20,7 +20,7 @@ returns-then-on_one_node g c =
     let items = c.deref-apart-items.ensures.value in (
       tried_on_one (tables.graph c.args.table.now) (vec_items c.args.self.now.aparts) i x
           (subst (λ (xs : List Apart). i < length xs) items c.loop-i-test.true) (subst (λ (xs : List Apart). x ≡ get_or xs i x) items c.apart-item.is)
-          _ _ c.term.ensures c.term-in-loop-i.ensures c.if-on_one_node.ensures,
+          _ _ c.term.ensures.value c.term-in-loop-i.ensures.value c.if-on_one_node.ensures,
       c.loop-i.invariant,
     )
 

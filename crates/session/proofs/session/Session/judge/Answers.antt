@@ -40,13 +40,13 @@ returns-in-Some-first_broken g c =
       fits = tt;
     }
 
-pub returns-then-self-gt-NODES : goal.returns-then-self-gt-NODES
-returns-then-self-gt-NODES g c =
+pub returns-then-len-gt-NODES : goal.returns-then-len-gt-NODES
+returns-then-len-gt-NODES g c =
     let s = c.args.self.now in
     record {
       closed = λ vars said ready.
           nodes_full (g.K.Kind.meaning s.kind) (g.met.K.Kind.lawful s.kind) s.closer c.requires.arranged (kept s) vars said ready c.args.trail.now c.in_default.ensures c.in_default-first_leaf.ensures c.in_default-first_broken.ensures
-          (omega (arith, c.requires.arranged.same.nodes, c.if-self-gt-NODES.true));
+          (omega (arith, c.requires.arranged.same.nodes, c.if-len-gt-NODES.true));
       fits = tt;
     }
 
@@ -56,6 +56,6 @@ returns g c =
     record {
       closed = λ vars said ready.
           taken (g.K.Kind.meaning s.kind) (g.met.K.Kind.lawful s.kind) s.closer c.requires.arranged (kept s) vars said ready c.args.trail.now c.in_default.ensures c.in_default-first_leaf.ensures c.in_default-first_broken.ensures
-          (omega (arith, c.requires.arranged.same.nodes, c.if-self-gt-NODES.false));
-      fits = (c.if-self-gt-NODES.false, c.in_default.ensures);
+          (omega (arith, c.requires.arranged.same.nodes, c.if-len-gt-NODES.false));
+      fits = (omega (arith, c.if-len-gt-NODES.false, c.len.ensures), c.in_default.ensures);
     }

@@ -1,6 +1,6 @@
 use Rattle.std.proofs.lemmas.Result.{err_from_is_err_and}
 use Rattle.tables.proofs.Known.{sound_known}
-use Rattle.session.specs.Parts.{term_of}
+use Rattle.terms.specs.Terms.{term_of}
 use Rattle.session.specs.Sessions.{graph, kept}
 use Rattle.session.proofs.Questions.{same_refused, same_told}
 use Rattle.session.proofs.session.Session.same.Goals as goal

@@ -13,7 +13,7 @@ returns-in_err-node c =
     let path = c.args.path.now in
     let i = c.loop-attribute.attribute-index in
     let node = c.loop-attribute.node in
-    let read = read_row c.args.self.now c.requires.sound node c.loop-attribute.invariant.0 c.index.result.now c.index.ensures in
+    let read = read_row c.args.self.now node c.loop-attribute.invariant.0 c.index.result.now c.index.ensures in
     let lacks = sym (ap (λ (r : Node). edge_of r (get_or path i 0)) read) ∙ c.in_err-node.ensures in
     rw c.from_residual.ensures (λ n w. leads_nowhere g path i node c.loop-attribute-test.true lacks n (c.loop-attribute.invariant.2 n w))
 
@@ -25,7 +25,7 @@ loop-attribute-preserved c =
     let node = c.loop-attribute.node in
     let next = c.in_ok-node.node in
     let l = c.loop-attribute-test.true in
-    let read = read_row c.args.self.now c.requires.sound node c.loop-attribute.invariant.0 c.index.result.now c.index.ensures in
+    let read = read_row c.args.self.now node c.loop-attribute.invariant.0 c.index.result.now c.index.ensures in
     let leads = sym (ap (λ (r : Node). edge_of r (get_or path i 0)) read) ∙ c.in_ok-node.ensures in (
       c.requires.sound.edges_inside node (get_or path i 0) next c.loop-attribute.invariant.0 leads,
       λ n w. c.loop-attribute.invariant.1 n (leads_more g path i node l next leads n w),

@@ -1,4 +1,4 @@
-use Rattle.std.proofs.Common.{◌≡◌, ℕ, ◌+◌, ◌<◌, ◌≤◌, drop}
+use Rattle.std.proofs.Common.{◌≡◌, ℕ, ◌+◌, ◌<◌, ◌≤◌, drop, vec_len}
 use mathlib.Core.Option.{Option}
 use Rattle.features.specs.Graphs.{Graph}
 use Rattle.features.specs.Holding.{Small}
@@ -9,7 +9,7 @@ use Rattle.tables.proofs.table.Table.grow.Given as goal
 -- whatever the rest of the path makes from here, the path makes from the start
 abbrev pub invariant-loop-attribute : goal.invariant-loop-attribute
 invariant-loop-attribute l =
-    (l.node < l.self.used) × (l.initial.self.used ≤ l.self.used) × (l.self.used ≤ l.initial.self.used + l.attribute-index) × (l.self.vars ≡ l.initial.self.vars)
+    (l.node < vec_len l.self.rows) × (vec_len l.initial.self.rows ≤ vec_len l.self.rows) × (vec_len l.self.rows ≤ vec_len l.initial.self.rows + l.attribute-index) × (vec_len l.self.roots ≡ vec_len l.initial.self.roots)
     × (l.self.roots ≡ l.initial.self.roots) × Sound l.self × Small (drop l.attribute-index l.path)
     × ((h : Graph) (state : ℕ → Option ℕ) (e : ℕ)
     → Grown l.top (graph l.self) (values l.self) l.node (drop l.attribute-index l.path) h state e
