@@ -26,7 +26,7 @@ impl Entries {
             list: Vec::new(heap),
         };
         for line in Lines::of(text) {
-            if let Some(entry) = Entry::read(heap, line)? {
+            if let Some(entry) = Entry::of(heap, line)? {
                 entries.add(entry)?;
             }
         }

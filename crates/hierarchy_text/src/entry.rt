@@ -1,7 +1,10 @@
 // A line of the notation: a name, then a colon and its supertypes, then a mark.
+ghost use Rattle.std.specs.Prelude.{◌≡◌, ◌↔◌, [], IsNone, IfOk, IfSome};
+ghost use Rattle.texts.specs.Words.{words_of};
+
 use crate::fault::Fault;
 use std::alloc::Global;
-use texts::line::Line;
+use texts::line::{Line, without_comment};
 use texts::named::Named;
 
 // A type as a line has it.
@@ -15,7 +18,19 @@ pub struct Entry {
 
 impl Entry {
     // The type of a line, or none where nothing stands there but a comment.
-    pub fn read(heap: Global, line: Line) -> Result<Option<Entry>, Fault> {
+    pub fn read(heap: Global, line: usize, text: &str) -> Result<Option<Entry>, Fault>
+        ensures line { IfOk result (λ found. IfSome found (λ entry. entry.line ≡ line)) }
+        ensures none { IfOk result (λ found. IsNone found ↔ (words_of text.now ≡ [])) }
+    {
+        let text = without_comment(text);
+        Entry::of(heap, Line { number: line, text })
+    }
+
+    // The type of a line whose comment is taken off, or none where nothing is left of it.
+    pub fn of(heap: Global, line: Line) -> Result<Option<Entry>, Fault>
+        ensures line { IfOk result (λ found. IfSome found (λ entry. entry.line ≡ line.entry.number)) }
+        ensures none { IfOk result (λ found. IsNone found ↔ (line.entry.text.now ≡ [])) }
+    {
         if line.text.is_empty() {
             return Ok(None);
         }

@@ -139,6 +139,20 @@ fn refusals_name_the_types(rt: HostRuntime) -> Result<(), Fail> {
 }
 
 #[test]
+fn a_line_by_itself(rt: HostRuntime) -> Result<(), Fail> {
+    let heap = rt.alloc();
+    assert!(&rt; Entry::read(heap, 1, "  # a : b")?.is_none());
+    let Some(entry) = Entry::read(heap, 3, " a : b c ! # d")? else {
+        return Err(Fail::new("nothing is read"));
+    };
+    assert_eq!(&rt; entry.line, 3);
+    assert_eq!(&rt; entry.name.as_str(), "a");
+    assert_eq!(&rt; entry.supertypes.len(), 2);
+    assert!(&rt; entry.leaf);
+    Ok(())
+}
+
+#[test]
 fn there_are_at_most_64_types(rt: HostRuntime) -> Result<(), Fail> {
     let heap = rt.alloc();
     let mut text = String::from_str(heap, "t\n")?;

@@ -1,6 +1,6 @@
 -- A line that is gathered byte by byte.
-use Rattle.std.specs.Prelude.{ℕ, List}
+use Rattle.std.specs.Prelude.{ℕ, List, take}
 use Rattle.lines.specs.declared.line_buffer.LineBuffer.{LineBuffer}
 
 abbrev pub held : LineBuffer → List ℕ
-held b = b.bytes.items
+held b = take b.count b.bytes

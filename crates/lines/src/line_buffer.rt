@@ -2,15 +2,14 @@
 ghost use Rattle.std.specs.Prelude.{◌≡◌, [], ◌∷◌, ◌++◌, take};
 ghost use Rattle.lines.specs.Gathering.{held};
 
-use arrayvec::ArrayVec;
-
 // One byte more than the longest line has: as many tell a line that is too long.
 const CAPACITY: usize = 121;
 
-// The first bytes of a line; those after them are let go.
-#[derive(Drop)]
+// The first bytes of a line: `count` of `bytes`. Those after them are let go.
+#[derive(Clone, Copy)]
 pub struct LineBuffer {
-    bytes: ArrayVec<u8, CAPACITY>,
+    bytes: [u8; CAPACITY],
+    count: usize,
 }
 
 impl LineBuffer {
@@ -18,7 +17,8 @@ impl LineBuffer {
         ensures { held result ≡ [] }
     {
         LineBuffer {
-            bytes: ArrayVec::new(),
+            bytes: [0; CAPACITY],
+            count: 0,
         }
     }
 
@@ -26,8 +26,9 @@ impl LineBuffer {
     pub fn add(&mut self, byte: u8)
         ensures { held self.new ≡ take 121 (held self.old ++ (byte ∷ [])) }
     {
-        if !self.bytes.is_full() {
-            self.bytes.push(byte);
+        if self.count < CAPACITY {
+            self.bytes[self.count] = byte;
+            self.count += 1;
         }
     }
 
@@ -35,12 +36,12 @@ impl LineBuffer {
     pub fn clear(&mut self)
         ensures { held self.new ≡ [] }
     {
-        self.bytes.clear();
+        self.count = 0;
     }
 
     pub fn line(&self) -> &[u8]
         ensures { result.now ≡ held self.now }
     {
-        self.bytes.as_slice()
+        &self.bytes[..self.count.min(CAPACITY)]
     }
 }

@@ -63,6 +63,29 @@ impl<T: Drop> From<AllocFailed<T>> for Mistake {
     }
 }
 
+// Memory runs out at no line.
+impl From<AllocError> for Fault {
+    ghost from_gives = { λ _ fault. fault.mistake ≡ Memory };
+
+    fn from(e: AllocError) -> Fault {
+        Fault {
+            line: 0,
+            mistake: Mistake::from(e),
+        }
+    }
+}
+
+impl<T: Drop> From<AllocFailed<T>> for Fault {
+    ghost from_gives = { λ _ fault. fault.mistake ≡ Memory };
+
+    fn from(failed: AllocFailed<T>) -> Fault {
+        Fault {
+            line: 0,
+            mistake: Mistake::from(failed),
+        }
+    }
+}
+
 // No line where memory is out.
 impl fmt::Display for Fault {
     fn fmt<W: fmt::Write>(&self, f: &mut fmt::Formatter<W>) -> fmt::Result {

@@ -26,7 +26,8 @@ impl Place {
         ensures word { IfOk result (λ longer. longer.word ≡ self.now.word) }
         ensures path { IfOk result (λ longer. longer.path.items ≡ self.now.path.items ++ attribute ∷ []) }
     {
-        let mut path = self.path.clone()?;
+        let mut path = Vec::with_capacity(*self.path.allocator(), self.path.len() + 1)?;
+        path.extend_from_slice(self.path.as_slice())?;
         path.push(attribute)?;
         Ok(Place {
             word: self.word,

@@ -1,7 +1,7 @@
 // A call with its operands.
 use crate::path::Path;
 
-#[derive(Drop)]
+#[derive(Clone, Copy)]
 pub enum Command {
     Declare,
     Equals(Path, Path),

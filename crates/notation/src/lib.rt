@@ -84,7 +84,8 @@ mod tests {
 
     #[test]
     fn reads_operands(rt: HostRuntime) -> Result<(), Fail> {
-        let Ok(Command::Equals(left, right)) = read(b"e 0.65535.2 13") else {
+        let equation = read(b"e 0.65535.2 13");
+        let Ok(Command::Equals(left, right)) = &equation else {
             return Err(Fail::new("no equation"));
         };
         assert_eq!(rt; left.term().var, 0);

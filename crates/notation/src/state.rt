@@ -7,7 +7,7 @@ use crate::class::{Call, Relation};
 use crate::path::Path;
 
 // Where a term stands: alone, before a value, or at a side of a pair.
-#[derive(Drop)]
+#[derive(Clone, Copy)]
 pub enum Place {
     Value,
     Is,
@@ -16,7 +16,7 @@ pub enum Place {
 }
 
 // A term that is being read: where it stands, what stands before its last point, and the number so far.
-#[derive(Drop)]
+#[derive(Clone, Copy)]
 pub struct Operand {
     pub place: Place,
     pub stem: Option<Path>,
@@ -26,14 +26,14 @@ pub struct Operand {
 }
 
 // A value that is being read: the term that it is given to, and the number so far.
-#[derive(Drop)]
+#[derive(Clone, Copy)]
 pub struct Assignment {
     pub term: Path,
     pub number: Option<u64>,
     ghost ranged: { Ranged (within_value term number) } by { ranged_prop (within_value term number) },
 }
 
-#[derive(Drop)]
+#[derive(Clone, Copy)]
 pub enum State {
     Start,
     // after the letter

@@ -1,5 +1,6 @@
 // Why equations clash. Which terms denote, and which of them one node, does not depend on values. So the equations are stated once more without their
 // values, which cannot clash, and the session is then asked which equations speak of the node at fault.
+use crate::asking::Asking;
 use crate::failure::Failure;
 use crate::stating::Stating;
 use crate::verdict::{Giving, Ground, Position};
@@ -16,14 +17,15 @@ pub fn explain(
     trail: &Place,
 ) -> Result<Option<Ground>, Failure> {
     let shape = shape(heap, context.sentence.words.count(), said)?;
-    let Some(first) = giving(&shape, said, trail, None)? else {
+    let asking = shape.asking();
+    let Some(first) = giving(&asking, said, trail, None)? else {
         return Ok(None);
     };
-    if let Some(second) = giving(&shape, said, trail, Some(first.value))? {
+    if let Some(second) = giving(&asking, said, trail, Some(first.value))? {
         return Ok(Some(Ground::TwoValues(first, second)));
     }
-    let branches = shape.branches(trail, context.attributes.count())?;
-    Ok(branches.first().map(|branch| Ground::ValueAndAttribute(first, branch.attribute)))
+    let branch = asking.first_branch(trail, context.attributes.count())?;
+    Ok(branch.map(|branch| Ground::ValueAndAttribute(first, branch.attribute)))
 }
 
 // Equations over so many words, without their values.
@@ -37,7 +39,7 @@ fn shape(heap: Global, words: u16, said: &[Equation]) -> Result<Stating, Failure
 
 // The first equation that gives the node of a trail a value, other than the given value.
 fn giving(
-    shape: &Stating,
+    shape: &Asking,
     said: &[Equation],
     trail: &Place,
     but: Option<u16>,

@@ -1,6 +1,7 @@
 // Sentences checked by a session over atoms, and what comes of it in words.
 #![tactic(auto)]
 
+mod asking;
 mod clashing;
 pub mod failure;
 pub mod findings;

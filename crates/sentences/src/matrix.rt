@@ -56,7 +56,8 @@ impl Matrix<'_> {
         let first = match mention {
             Mention::First(first) => first,
             Mention::Later(earlier) => {
-                return match self.outline.label(earlier).map(Label) {
+                let node = self.outline.nodes.get(earlier);
+                return match node.and_then(|node| node.label).map(Label) {
                     Some(label) => write!(f, "{label}"),
                     None => Ok(()),
                 };
@@ -65,7 +66,7 @@ impl Matrix<'_> {
         let Some(node) = self.outline.nodes.get(first) else {
             return Ok(());
         };
-        let label = self.outline.label(first).map(Label);
+        let label = node.label.map(Label);
         if let Some(label) = label {
             write!(f, "{label} ")?;
         }

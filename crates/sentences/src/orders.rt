@@ -1,5 +1,5 @@
 // Every order of a sentence's equations.
-ghost use Rattle.std.specs.Prelude.{◌≡◌, ◌≤◌};
+ghost use Rattle.std.specs.Prelude.{◌≡◌};
 
 use std::fmt;
 
@@ -14,8 +14,6 @@ pub struct Orders {
     pub accepted: usize,
     // accepted orders whose graph is, byte for byte, that of the first
     pub same: usize,
-    ghost some: { accepted ≤ tried },
-    ghost alike: { same ≤ accepted },
 }
 
 impl Default for Orders {

@@ -1,5 +1,6 @@
 // A graph as it is drawn: each node once, and its number wherever else it is mentioned.
-ghost use Rattle.std.specs.Prelude.{◌≡◌, ◌+◌, MatchOption, take, count_by, slice_get, if◌then◌else◌};
+ghost use Rattle.std.specs.Prelude.{◌≡◌, MatchOption, slice_get};
+ghost use Rattle.sentences.specs.Outlines.{label_of};
 
 use manuals::place::Place;
 
@@ -20,6 +21,8 @@ pub struct Node {
     pub edges: Vec<Edge>,
     // it is mentioned more than once
     pub shared: bool,
+    // its boxed number then
+    pub label: Option<usize>,
 }
 
 #[derive(Clone, Copy)]
@@ -38,7 +41,7 @@ pub enum Mention {
 impl Outline {
     // The boxed number of a node that is mentioned more than once: such nodes are counted from 1.
     pub fn label(&self, node: usize) -> Option<usize>
-        ensures { MatchOption (slice_get self.now.nodes.items node) (result ≡ None) (λ n. result ≡ (if n.shared then Some (count_by (λ m. m.shared) (take (node + 1) self.now.nodes.items)) else None)) }
+        ensures { MatchOption (slice_get self.now.nodes.items node) (result ≡ None) (λ n. result ≡ label_of self.now.nodes.items node n) }
     {
         if !self.nodes.get(node)?.shared {
             return None;

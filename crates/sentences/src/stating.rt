@@ -1,12 +1,9 @@
 // The equations of a sentence, told to a session.
-ghost use Rattle.std.specs.Prelude.{◌≡◌, ◌+◌, IfSome};
-ghost use Rattle.kinds.specs.Atoms.{atoms};
-ghost use Rattle.answers.specs.Answers.{ask_same, says};
-ghost use Rattle.answers.specs.Runs.{Step, asked};
+ghost use Rattle.std.specs.Prelude.{◌≡◌, ◌+◌};
 ghost use Rattle.features.specs.Terms.{equals};
-ghost use Rattle.session.specs.Sessions.{graph, kept};
 ghost use Rattle.sentences.specs.Statements.{term_of, statement_of, shape_of, Told};
 
+use crate::asking::Asking;
 use crate::failure::Failure;
 use answers::refusal::Refusal;
 use kinds::atoms::Atoms;
@@ -29,13 +26,6 @@ pub struct Stating {
     session: Session<Atoms>,
     // where the session writes the trail of a node at fault
     trail: [u16; TRAIL],
-}
-
-// A term that is one attribute longer than that of a node, and the attribute.
-#[derive(Drop)]
-pub struct Branch {
-    pub attribute: u16,
-    pub place: Place,
 }
 
 impl Stating {
@@ -96,29 +86,14 @@ impl Stating {
         Ok(Place { word, path })
     }
 
-    // Do both terms denote one node?
-    pub fn same(&self, left: &Place, right: &Place) -> Result<bool, Refusal>
-        ensures { Step graph kept atoms self.now.session (asked (ask_same (term_of left.now) (term_of right.now)) (says result)) self.now.session }
+    // The questions that the session answers.
+    pub fn asking(&self) -> Asking<'_>
+        ensures { result.session.now ≡ self.now.session }
     {
-        self.session.same(term(left), term(right))
-    }
-
-    // The number of the value that the node of a term has, where it has one.
-    pub fn value(&self, place: &Place) -> Result<Option<u16>, Refusal> {
-        let atom = self.session.value(term(place))?;
-        Ok(atom.and_then(value_of))
-    }
-
-    // The attributes below the given count that the node of a term has, each with its term. The question can fail, so no `find` or `filter`.
-    pub fn branches(&self, place: &Place, attributes: u16) -> Result<Vec<Branch>, Failure> {
-        let mut branches = Vec::new(self.heap);
-        for attribute in 0..attributes {
-            let place = place.extended(attribute)?;
-            if self.session.value(term(&place))?.is_some() {
-                branches.push(Branch { attribute, place })?;
-            }
+        Asking {
+            heap: self.heap,
+            session: &self.session,
         }
-        Ok(branches)
     }
 
     // The graph as its listing.
@@ -131,7 +106,7 @@ impl Stating {
 }
 
 // No `From` can say this, as both types are of other crates.
-fn term(place: &Place) -> Term<'_>
+pub fn term(place: &Place) -> Term<'_>
     ensures var { result.var ≡ place.now.word }
     ensures path { result.path.now ≡ place.now.path.items }
 {
@@ -146,11 +121,4 @@ fn atom(value: u16) -> u64
     ensures { result ≡ value + 1 }
 {
     u64::from(value) + 1
-}
-
-// The number of the value that an atom stands for, and none for the top.
-fn value_of(atom: u64) -> Option<u16>
-    ensures { IfSome result (λ value. atom ≡ value + 1) }
-{
-    u16::try_from(atom.checked_sub(1)?).ok()
 }

@@ -1,5 +1,5 @@
 // The equations of a sentence in every order.
-ghost use Rattle.std.specs.Prelude.{◌≤◌, ◌↔◌, vec_len, IsSome, IfOk};
+ghost use Rattle.std.specs.Prelude.{◌≤◌, ◌↔◌, vec_len, IsSome, IfOk, IfSome};
 
 use crate::failure::Failure;
 use crate::orders::{MOST, Orders};
@@ -14,6 +14,8 @@ impl Orders {
     // Tries every order, where the equations are not too many.
     pub fn of(heap: Global, sentence: &Sentence) -> Result<Option<Orders>, Failure>
         ensures tried { IfOk result (λ found. IsSome found ↔ (vec_len sentence.now.equations ≤ MOST)) }
+        ensures some { IfOk result (λ found. IfSome found (λ orders. orders.accepted ≤ orders.tried)) }
+        ensures alike { IfOk result (λ found. IfSome found (λ orders. orders.same ≤ orders.accepted)) }
     {
         let count = sentence.equations.len();
         if count > MOST {
@@ -37,6 +39,8 @@ struct Tally {
     orders: Orders,
     // the graph of the first that was accepted
     first: Option<Vec<u8>>,
+    ghost some: { orders.accepted ≤ orders.tried },
+    ghost alike: { orders.same ≤ orders.accepted },
 }
 
 impl Tally {

@@ -65,6 +65,9 @@ impl Verdict {
                 }));
             }
         }
-        Ok(Verdict::Agrees(Outline::of(&stating, context)?))
+        let session = stating.asking().session;
+        let words = context.sentence.words.count();
+        let attributes = context.attributes.count();
+        Ok(Verdict::Agrees(Outline::of(heap, session, words, attributes)?))
     }
 }

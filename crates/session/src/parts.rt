@@ -9,7 +9,7 @@ pub const LONGEST: usize = 8;
 pub type Held = KeptTerm<LONGEST>;
 
 // Two terms that are to denote two nodes, or at least one of them nothing.
-#[derive(Drop)]
+#[derive(Clone, Copy)]
 pub struct Apart {
     pub left: Held,
     pub right: Held,

@@ -1,11 +1,11 @@
 -- The lowest bit of a number, what is left without it, and the count of bits.
-use Rattle.std.proofs.Common.{◌≡◌, ℕ, zero, suc, ◌+◌, ◌-◌, ◌/◌, ◌%◌, ◌^◌, ◌<◌, ◌≤◌, min, Bool, true, false, cond, ◌&&◌, eqb, ltb, ◌⊎◌, get_or, sym, refl, ap, ◌∙◌, ap₂, inl, inr, Some, None, add-zero, pow-suc, zero-add, arith}
+use Rattle.std.proofs.Common.{◌≡◌, ℕ, zero, suc, ◌+◌, ◌-◌, ◌/◌, ◌%◌, ◌^◌, ◌<◌, min, Bool, true, false, cond, ◌&&◌, eqb, ltb, ◌⊎◌, get_or, sym, refl, ap, ◌∙◌, ap₂, inl, inr, add-zero, pow-suc, zero-add, arith}
 use mathlib.Core.Option.{some, none}
 use lib.Bits.{bit_and, and_step, and_self, and_le_r}
 use lib.Count.{count_trailing_zeros, under, ones, ones_step, ones-le}
 use Rattle.std.proofs.lemmas.Bool.{both_ways, cases_order, and_left, and_right, eqb-true, eqb-false, cases_Bool, lt-ltb}
-use Rattle.kinds.specs.Masks.{has, LowestBit}
-use Rattle.kinds.specs.BitSets.{has_and, has_none, has_zero, has_suc, has_past, lowest_set}
+use Rattle.kinds.specs.Masks.{has}
+use Rattle.kinds.specs.BitSets.{has_and, has_none, has_zero, has_suc, lowest_set, none_lower}
 use Rattle.features.specs.Listing.{count, one_if}
 use Rattle.tables.specs.declared.node.Node.{Node}
 use Rattle.tables.specs.Views.{edge_of}
@@ -32,25 +32,10 @@ has_positive zero t h = absurd (both_ways (has 0 t) (has_none t) h)
 has_positive (suc a) t h = omega arith
 
 -- the lowest bit of a number of 32 bits, as an attribute
-pub lowest_is : (a t : ℕ) → a < 2 ^ 32 → LowestBit a (Some t) → Lowest a t
-lowest_is a t h (s, p, least) = record { positive = has_positive a t p; below = below (cases_order t 32); present = p; none_lower = λ b l. none_at b l (cases_Bool (has a b)) }
-  where
-    past : 32 ≤ t → ⊥
-    past l = both_ways (has a t) (has_past a 32 t h l) p
-
-    below : (t ≡ 32) ⊎ ((t < 32) ⊎ (32 < t)) → t < 32
-    below (inl e) = absurd (past (omega arith))
-    below (inr (inl l)) = l
-    below (inr (inr l)) = absurd (past (omega arith))
-
-    none_at : (b : ℕ) → b < t → (has a b ≡ true) ⊎ (has a b ≡ false) → has a b ≡ false
-    none_at b l (inl e) = let m = least b e in absurd (omega arith)
-    none_at b l (inr e) = e
-
--- a number without a bit is 0
-pub without_bits : (a : ℕ) → a < 2 ^ 32 → LowestBit a None → a ≡ 0
-without_bits zero h lacks = refl
-without_bits (suc a) h lacks = absurd (lacks (count_trailing_zeros 32 (suc a)) (lowest_set 32 (suc a) (trailing_below 32 (suc a) (omega arith) h)))
+pub lowest_is : (a : ℕ) → 0 < a → a < 2 ^ 32 → Lowest a (count_trailing_zeros 32 a)
+lowest_is a p h =
+    let l = trailing_below 32 a p h in
+    record { positive = p; below = l; present = lowest_set 32 a l; none_lower = λ b. none_lower 32 a b }
 
 -- the bits of half a number, where its lowest bit stands above its last digit
 module _ (t a : ℕ) (h : has a (suc t) ≡ true) (n : (b : ℕ) → b < suc t → has a b ≡ false) where

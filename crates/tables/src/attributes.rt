@@ -3,7 +3,6 @@ ghost use Rattle.std.specs.Prelude.{◌≡◌, ℕ, true};
 ghost use Rattle.kinds.specs.Masks.{has};
 
 use crate::node::Node;
-use kinds::masks::lowest_bit;
 
 // The attributes of a node and where they lead, from the lowest up: those that are to come are the bits of `left`.
 #[derive(Clone, Copy)]
@@ -25,7 +24,10 @@ impl<'a> Iterator for Edges<'a> {
     ghost remaining = { λ e. at_most (count_ones e.left) };
 
     fn next(&mut self) -> Option<(u16, u16)> {
-        let attribute = lowest_bit(u64::from(self.left))?;
+        if self.left == 0 {
+            return None;
+        }
+        let attribute = self.left.trailing_zeros() as u16;
         self.left &= self.left - 1;
         Some((attribute, self.node.targets[attribute as usize]))
     }

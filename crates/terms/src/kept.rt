@@ -4,22 +4,30 @@ ghost use Rattle.features.specs.Terms.{only, ◌▸◌};
 ghost use Rattle.terms.specs.Terms.{term_of};
 
 use crate::lent::Term;
-use arrayvec::ArrayVec;
 use std::marker::Model;
 
-// A term of at most `MOST` attributes.
-#[derive(Drop)]
+// A term of at most `MOST` attributes: the first `count` of `path` are its own, and zeros stand behind them.
+#[derive(Clone, Copy)]
 pub struct KeptTerm<const MOST: usize> {
     var: u16,
-    path: ArrayVec<u16, MOST>,
+    count: usize,
+    path: [u16; MOST],
 }
 
 impl<const MOST: usize> Model for KeptTerm<MOST> {
+    ghost use Rattle.std.specs.Prelude.{length, take};
     ghost use Rattle.features.specs.Terms.{Term};
+    ghost use Rattle.terms.specs.Kept.{Kept, padded, count_kept, entries_kept};
 
     ghost Value = { Term };
 
-    ghost view = { λ t. record { var = t.var; path = t.path.items } };
+    ghost view = { λ t. record { var = t.var; path = take t.count t.path } };
+
+    ghost invariant = { λ t. Kept t.count MOST t.path };
+
+    ghost inverse = { λ d. record { var = d.var; count = length d.path; path = padded MOST d.path } };
+
+    ghost inverse_ok = { λ t k i. record { var = t.var; count = count_kept t.count MOST t.path k i; path = entries_kept t.count MOST t.path k i } };
 }
 
 impl<const MOST: usize> KeptTerm<MOST> {
@@ -29,7 +37,8 @@ impl<const MOST: usize> KeptTerm<MOST> {
     {
         KeptTerm {
             var,
-            path: ArrayVec::new(),
+            count: 0,
+            path: [0; MOST],
         }
     }
 
@@ -50,7 +59,8 @@ impl<const MOST: usize> KeptTerm<MOST> {
         requires { length self.old.path < MOST }
         ensures { self.new ≡ self.old ▸ attribute }
     {
-        self.path.push(attribute);
+        self.path[self.count] = attribute;
+        self.count += 1;
     }
 
     // The term that is kept.
@@ -60,7 +70,7 @@ impl<const MOST: usize> KeptTerm<MOST> {
     {
         Term {
             var: self.var,
-            path: self.path.as_slice(),
+            path: &self.path[..self.count],
         }
     }
 }

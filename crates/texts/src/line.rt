@@ -52,7 +52,7 @@ impl<'a> Iterator for Lines<'a> {
 }
 
 // What stands before a comment, without outer spaces.
-fn without_comment(text: &str) -> &str
+pub fn without_comment(text: &str) -> &str
     ensures { result.now ≡ words_of text.now }
 {
     text.split_once('#')

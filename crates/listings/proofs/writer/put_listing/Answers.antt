@@ -7,7 +7,9 @@ use Rattle.listings.proofs.Lengths.{length_variables, length_parts, written_part
 use Rattle.listings.proofs.writer.put_listing.Goals as goal
 
 pub put_nodes-requires : goal.put_nodes-requires
-put_nodes-requires c = record { sound = c.requires.sound; fits = omega (arith, length_parts (graph c.args.table.now)) }
+put_nodes-requires c =
+    let g = graph c.args.table.now in
+    record { sound = c.requires.sound; fits = omega (arith, length_parts g, length_variables g g.vars) }
 
 pub put_variables-requires : goal.put_variables-requires
 put_variables-requires c =

@@ -3,7 +3,7 @@ use Rattle.tables.specs.declared.node.Node.{Node}
 use Rattle.tables.specs.Views.{row, graph}
 use Rattle.buffers.proofs.Runs.{wrote_none, wrote_same}
 use Rattle.listings.specs.Parts.{bytes_of}
-use Rattle.listings.proofs.Lengths.{no_nodes, node_fits, wrote_node}
+use Rattle.listings.proofs.Lengths.{no_nodes, node_fits, first_nodes_bound, wrote_node}
 use Rattle.listings.proofs.writer.put_nodes.Goals as goal
 
 pub loop-node-init : goal.loop-node-init
@@ -15,7 +15,7 @@ put_node-requires c =
     let i = c.loop-node.node-index in
     let inside : i < (graph t).nodes = omega arith in
     let same = ap (λ (xs : List Node). length (bytes_of (row xs i))) c.deref-node-items.ensures.value in
-    omega (arith, same, node_fits t i inside)
+    omega (arith, same, node_fits t i inside, first_nodes_bound (graph t) (graph t).nodes)
 
 pub loop-node-preserved : goal.loop-node-preserved
 loop-node-preserved c =

@@ -1,4 +1,4 @@
-use Rattle.std.proofs.Common.{ap, get_or, vec_items, vec_len}
+use Rattle.std.proofs.Common.{arith}
 use Rattle.joining.proofs.workspace.Workspace.give.Goals as goal
 
 pub returns : goal.returns
@@ -6,13 +6,13 @@ returns g c =
     let put = c.meet_state.ensures.put in
     record {
       given = record {
-        nodes = put.used;
-        vars = ap vec_len put.roots;
-        roots = λ x l. ap (λ z. get_or (vec_items z) x 0) put.roots;
-        edges = λ n a l. put.edges n a;
-        others = λ n l d. put.others n d;
+        nodes = omega (arith, put.used);
+        vars = cc;
+        roots = λ x l. cc;
+        edges = λ n a l. grind (arith, put.edges n a);
+        others = λ n l d. grind (arith, put.others n d);
         met = c.meet_state.ensures.met;
       };
-      classes = put.classes;
-      joins = put.joins;
+      classes = grind (arith, put.classes);
+      joins = omega (arith, put.joins);
     }

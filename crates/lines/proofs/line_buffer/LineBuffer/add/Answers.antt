@@ -1,17 +1,17 @@
-use Rattle.std.proofs.Common.{[], ◌∷◌, ◌++◌, length, sym, ◌∙◌, arith, length-append}
-use Rattle.std.proofs.lemmas.Bool.{eqb-true, eqb-false}
-use Rattle.std.proofs.lemmas.List.{take_all, take_at}
-use Rattle.lines.specs.Gathering.{held}
+use Rattle.std.proofs.Common.{ℕ, List, [], ◌∷◌, ◌++◌, take, sym, ap, ◌∙◌, arith, length-append, length-take}
+use Rattle.std.proofs.lemmas.List.{take_all, take_at, take_more_set}
 use Rattle.lines.proofs.line_buffer.LineBuffer.add.Goals as goal
 
-pub returns-then-not-is_full : goal.returns-then-not-is_full
-returns-then-not-is_full c =
-    let bytes = held c.args.self.now in
-    let more = eqb-false (length bytes) 121 (sym c.is_full.ensures.value ∙ c.if-not-is_full.true) in
-    c.push.ensures.items ∙ sym (take_all 121 (bytes ++ (c.args.byte ∷ [])) (omega (arith, more, c.is_full.ensures.fits, length-append bytes (c.args.byte ∷ []))))
+pub returns-then-self-lt-CAPACITY : goal.returns-then-self-lt-CAPACITY
+returns-then-self-lt-CAPACITY c =
+    let bytes = c.args.self.now.bytes in
+    let n = c.args.self.now.count in
+    let whole : List ℕ = take n bytes ++ (c.args.byte ∷ []) in
+    take_more_set bytes n c.args.byte (omega arith)
+    ∙ sym (take_all 121 whole (omega (arith, length-append (take n bytes) (c.args.byte ∷ []), length-take n bytes)))
 
-pub returns-else-not-is_full : goal.returns-else-not-is_full
-returns-else-not-is_full c =
-    let bytes = held c.args.self.now in
-    let full = eqb-true (length bytes) 121 (sym c.is_full.ensures.value ∙ c.if-not-is_full.false) in
-    sym (take_at bytes (c.args.byte ∷ []) 121 full)
+pub returns-else-self-lt-CAPACITY : goal.returns-else-self-lt-CAPACITY
+returns-else-self-lt-CAPACITY c =
+    let bytes = c.args.self.now.bytes in
+    let all = take_all c.args.self.now.count bytes (omega arith) in
+    all ∙ sym (ap (λ (t : List ℕ). take 121 (t ++ (c.args.byte ∷ []))) all ∙ take_at bytes (c.args.byte ∷ []) 121 (omega arith))

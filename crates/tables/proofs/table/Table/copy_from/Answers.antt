@@ -6,7 +6,7 @@ pub returns : goal.returns
 returns c =
     let rows = c.extend_from_slice.ensures in
     let roots = c.extend_from_slice-2.ensures in
-    copied c.args.other.now (record { rows = c.extend_from_slice.new.self; roots = c.extend_from_slice-2.new.self }) c.requires.others
+    copied c.args.other.now _ c.requires.others
     (omega (arith, rows.capacity, c.clear.ensures.capacity, c.requires.own.row_room))
     (omega (arith, roots.capacity, c.clear-2.ensures.capacity, c.requires.own.root_room))
     (let e = rw c.unwrap.ensures at rows.len in omega (arith, c.clear.ensures.len, c.deref.ensures.len))
