@@ -36,10 +36,10 @@ impl Asking<'_> {
         self.session.same(term(left), term(right))
     }
 
-    // The number of the value that the node of a term has, where it has one: the last, which no name has, for an atom beyond all numbers.
+    // The number of the value that the node of a term has, where it has one.
     pub fn value(&self, place: &Place) -> Result<Option<u16>, Refusal> {
-        let atom = self.session.value(term(place))?.filter(|atom| *atom > 0);
-        Ok(atom.map(|atom| value_of(atom).unwrap_or(u16::MAX)))
+        let atom = self.session.value(term(place))?;
+        Ok(atom.and_then(value_of))
     }
 
     // The attributes below the given count that the node of a term has, each with its term. The question can fail, so no `find` or `filter`.
@@ -70,7 +70,7 @@ impl Asking<'_> {
     }
 }
 
-// The number of the value that an atom stands for, and none for the top or beyond all numbers.
+// The number of the value that an atom stands for, and none for the top.
 fn value_of(atom: u64) -> Option<u16>
     ensures { IfSome result (λ value. atom ≡ value + 1) }
 {
